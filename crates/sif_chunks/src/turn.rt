@@ -1,0 +1,66 @@
+// One turn of a reader: a step of the split, and more bytes where it needs them.
+ghost use Rattle.std.specs.Prelude.{◌≡◌, ◌≢◌, ◌<◌, ◌≤◌, ℕ, [], Some, IfSome};
+ghost use Rattle.st_base.specs.Streams.{Rose};
+ghost use Rattle.sif_chunks.specs.Reading.{answer_at, tells};
+ghost use Rattle.sif_chunks.specs.Step.{IsSpent};
+ghost use Rattle.sif_chunks.specs.Turn.{judged_of, Ends, Turns};
+
+use crate::Next;
+use crate::element::ElementText;
+use crate::step::{Step, go_on};
+use crate::window::{Fill, MAX_INPUT, Window};
+use st_base::Source;
+
+// Judges what stands before the end of the input.
+fn finish(window: &mut Window, text: &mut ElementText) -> Next
+    requires { IsSpent window.old.pending }
+    ensures { Ends result text.old window.old text.new window.new }
+{
+    if text.is_white() {
+        text.clear();
+        return Next::End;
+    }
+    if window.bytes().is_empty() {
+        return Next::Unfinished;
+    }
+    window.pass(1);
+    Next::Element
+}
+
+/// Takes one step, and more bytes where it needs them. It answers where the element is settled.
+pub(crate) fn turn<S: Source>(
+    window: &mut Window,
+    text: &mut ElementText,
+    source: &mut S,
+) -> Option<Next>
+    requires { window.old.taken ≤ MAX_INPUT }
+    ensures turns { Turns result text.old window.old (S.left source.old) text.new window.new (S.left source.new) }
+    ensures input { result ≢ Some Next.InputTooLong → window.new.taken ≤ MAX_INPUT }
+    ensures moved { judged_of window.old ≤ judged_of window.new }
+    ensures judged { judged_of window.new ≤ MAX_INPUT }
+    ensures given { result ≡ Some Next.Element → judged_of window.old < judged_of window.new }
+    ensures ended { result ≡ Some Next.End → IfSome (S.left source.new) (λ bytes. bytes ≡ []) }
+    ensures later { S.faults source.old ≤ S.faults source.new }
+    ensures kept { result ≢ Some Next.ReadFault → S.faults source.new ≡ S.faults source.old }
+    ensures failed { result ≡ Some Next.ReadFault → Rose (S.faults source.old) (S.faults source.new) }
+{
+    let (count, step) = go_on(window.bytes(), text);
+    window.pass(count);
+    match step {
+        Step::Doubled => None,
+        Step::TooLong => Some(Next::TooLong),
+        Step::Separator => {
+            if !text.is_white() {
+                return Some(Next::Element);
+            }
+            text.clear();
+            None
+        }
+        Step::More => match window.refill(source) {
+            Fill::Some => None,
+            Fill::End => Some(finish(window, text)),
+            Fill::Beyond => Some(Next::InputTooLong),
+            Fill::Failed => Some(Next::ReadFault),
+        },
+    }
+}
