@@ -1,5 +1,5 @@
 -- What a window is seen as, and what asking for more bytes does to it and to what the source has left.
-use Rattle.std.specs.Prelude.{◌≡◌, ◌≤◌, ◌<◌, ◌+◌, ◌-◌, ℕ, List, [], ◌++◌, length, take, drop, Option, IfSome, vec_len}
+use Rattle.std.specs.Prelude.{◌≡◌, ◌≤◌, ◌<◌, ◌+◌, ◌-◌, ℕ, List, [], ◌++◌, length, take, drop, Option, IfSome}
 use Rattle.std.specs.Io.KnownBytes.{prepend_known}
 use Rattle.sif_chunks.specs.Reading.{max_input}
 use Rattle.sif_chunks.specs.declared.window.Fill.{Fill}
@@ -15,9 +15,9 @@ abbrev pub view_of : Inside → Held
 view_of w = record { pending = take (w.end - w.start) (drop w.start w.bytes.items); taken = w.taken }
 
 pub record IsSound (w : Inside) : Type 0 where
-  pub size : vec_len w.bytes ≡ 65537
+  pub size : length w.bytes.items ≡ 65537
   pub order : w.start ≤ w.end
-  pub within : w.end ≤ vec_len w.bytes
+  pub within : w.end ≤ length w.bytes.items
   pub counted : w.end - w.start ≤ w.taken
   pub input : w.taken ≤ max_input + 1
 

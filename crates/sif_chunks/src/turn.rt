@@ -1,19 +1,20 @@
 // One turn of a reader: a step of the split, and more bytes where it needs them.
-ghost use Rattle.std.specs.Prelude.{◌≡◌, ◌≢◌, ◌<◌, ◌≤◌, ℕ, [], Some, IfSome};
+ghost use Rattle.std.specs.Prelude.{◌≡◌, ◌≢◌, ◌<◌, ◌≤◌, ℕ, [], Some, IfSome, length};
 ghost use Rattle.st_base.specs.Streams.{Rose};
 ghost use Rattle.sif_chunks.specs.Reading.{answer_at, tells};
 ghost use Rattle.sif_chunks.specs.Step.{IsSpent};
 ghost use Rattle.sif_chunks.specs.Turn.{judged_of, Ends, Turns};
 
 use crate::Next;
-use crate::element::ElementText;
+use crate::element::{ElementText, MAX_TEXT};
 use crate::step::{Step, go_on};
 use crate::window::{Fill, MAX_INPUT, Window};
 use st_base::Source;
 
 // Judges what stands before the end of the input.
 fn finish(window: &mut Window, text: &mut ElementText) -> Next
-    requires { IsSpent window.old.pending }
+    requires spent { IsSpent window.old.pending }
+    requires short { length text.old ≤ MAX_TEXT }
     ensures { Ends result text.old window.old text.new window.new }
 {
     if text.is_white() {

@@ -57,7 +57,8 @@ impl Window {
     }
 
     pub fn bytes(&self) -> &[u8]
-        ensures { result.now ≡ self.now.pending }
+        ensures bytes { result.now ≡ self.now.pending }
+        ensures counted { length result.now ≤ self.now.taken }
     {
         &self.bytes[self.start..self.end]
     }
