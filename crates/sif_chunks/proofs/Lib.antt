@@ -1,7 +1,9 @@
 pub mod SplitLemmas
 pub mod SplitLaw
+pub mod WrittenLaw
 pub mod StepLemmas
 pub mod WindowLemmas
 pub mod Ahead
 pub mod Moves
 pub mod Turned
+pub mod Outlooks

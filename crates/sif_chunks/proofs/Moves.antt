@@ -129,3 +129,6 @@ end_gives answer text text' old new left now same none ends = rw same record {
   same = λ number. option_map-end (answer_at number text old.pending old.taken) (tells answer number text' new.pending new.taken) left none (ends.same number);
   settled = ([], rw ends.taken (takes_none old.taken left), end_settles answer text text' old new left none ends);
 }
+
+pub moves_none : (text : List ℕ) (old : Held) (left : Option (List ℕ)) → old.taken ≤ max_input → Moves text old left text old left []
+moves_none text old left input = record { takes = takes_none old.taken left; input = input; same = λ number ended more. refl }

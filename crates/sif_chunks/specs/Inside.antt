@@ -13,3 +13,4 @@ pub record IsSound (r : Inside) : Type 0 where
   pub counted : r.number + (if r.is_given then 1 else 0) ≤ judged_of r.window + 1
   pub input : r.stop ≡ None → r.window.taken ≤ max_input
   pub judged : judged_of r.window ≤ max_input
+  pub most : r.window.taken ≤ max_input + 1

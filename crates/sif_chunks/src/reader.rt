@@ -19,6 +19,7 @@ fn advance<S: Source>(window: &mut Window, text: &mut ElementText, source: &mut 
     requires { window.old.taken ≤ MAX_INPUT }
     ensures gives { Gives result text.old window.old (S.left source.old) text.new window.new (S.left source.new) }
     ensures input { result ≢ Next.InputTooLong → window.new.taken ≤ MAX_INPUT }
+    ensures most { window.new.taken ≤ MAX_INPUT + 1 }
     ensures moved { judged_of window.old ≤ judged_of window.new }
     ensures judged { judged_of window.new ≤ MAX_INPUT }
     ensures given { result ≡ Next.Element → judged_of window.old < judged_of window.new }
@@ -79,7 +80,7 @@ impl ChunkReader {
         ensures settled { Settled result self.old (S.left source.old) self.new (S.left source.new) }
         ensures given { self.new.is_given ≡ is_element result }
         ensures stop { self.new.stop ≡ stop_of result }
-        ensures input { self.new.taken ≤ MAX_INPUT + 1 }
+        ensures most { self.new.taken ≤ MAX_INPUT + 1 }
         ensures moved { judged self.old ≤ judged self.new }
         ensures progress { self.old.stop ≡ None → result ≡ Next.Element → judged self.old < judged self.new }
         ensures bound { judged self.new ≤ MAX_INPUT }

@@ -1,5 +1,5 @@
 // One turn of a reader: a step of the split, and more bytes where it needs them.
-ghost use Rattle.std.specs.Prelude.{◌≡◌, ◌≢◌, ◌<◌, ◌≤◌, ℕ, [], Some, IfSome, length};
+ghost use Rattle.std.specs.Prelude.{◌≡◌, ◌≢◌, ◌+◌, ◌<◌, ◌≤◌, ℕ, [], Some, IfSome, length};
 ghost use Rattle.st_base.specs.Streams.{Rose};
 ghost use Rattle.sif_chunks.specs.Reading.{answer_at, tells};
 ghost use Rattle.sif_chunks.specs.Step.{IsSpent};
@@ -37,6 +37,7 @@ pub(crate) fn turn<S: Source>(
     requires { window.old.taken ≤ MAX_INPUT }
     ensures turns { Turns result text.old window.old (S.left source.old) text.new window.new (S.left source.new) }
     ensures input { result ≢ Some Next.InputTooLong → window.new.taken ≤ MAX_INPUT }
+    ensures most { window.new.taken ≤ MAX_INPUT + 1 }
     ensures moved { judged_of window.old ≤ judged_of window.new }
     ensures judged { judged_of window.new ≤ MAX_INPUT }
     ensures given { result ≡ Some Next.Element → judged_of window.old < judged_of window.new }

@@ -1,0 +1,34 @@
+use Rattle.std.proofs.Common.{◌≡◌, ◌∙◌, ◌+◌, Some, None, [], sym, ap, ℕ, List}
+use Rattle.sif_chunks.proofs.Outlooks.{repeated, repeated_settled, outlook-given, outlook-begun, over-given, over-begun, answered, settled_by}
+use Rattle.sif_chunks.proofs.reader.ChunkReader.next.Goals as goal
+use Rattle.sif_chunks.proofs.reader.ChunkReader.next.Goals.{then-self, else-self}
+
+pub returns-in-Some-clause-answer : goal.returns-in-Some-clause-answer
+returns-in-Some-clause-answer g c =
+    repeated c.args.self.now c.in-Some.stop c.next.result (g.S.Source.left c.args.source.now) (rw (← c.self.view_is) c.in-Some.is) c.next.ensures
+
+pub returns-in-Some-clause-settled : goal.returns-in-Some-clause-settled
+returns-in-Some-clause-settled g c =
+    repeated_settled c.args.self.now c.in-Some.stop c.next.result (g.S.Source.left c.args.source.now) c.next.ensures
+
+pub returns-clause-answer : goal.returns-clause-answer
+returns-clause-answer g c =
+    elim c.if-self.branch [
+      | then-self w ↦
+          let gives = rw (w.self-inside-is, w.clear.ensures) at c.advance-answer.ensures.gives in
+          rw (← c.self.view_is, w.self-inside-is) (answered c.advance-answer.result [] _ _ (g.S.Source.left c.args.source.now) (g.S.Source.left c.advance-answer.new.source) (outlook-given _ c.in_default.is w.if-self.true) gives)
+      | else-self w ↦
+          let gives = rw w.self-inside-is at c.advance-answer.ensures.gives in
+          rw (← c.self.view_is, w.self-inside-is) (answered c.advance-answer.result c.self.inside.text _ _ (g.S.Source.left c.args.source.now) (g.S.Source.left c.advance-answer.new.source) (outlook-begun _ c.in_default.is w.if-self.false) gives)
+    ]
+
+pub returns-clause-settled : goal.returns-clause-settled
+returns-clause-settled g c =
+    elim c.if-self.branch [
+      | then-self w ↦
+          let gives = rw (w.self-inside-is, w.clear.ensures) at c.advance-answer.ensures.gives in
+          rw (← c.self.view_is, w.self-inside-is) (settled_by c.advance-answer.result [] _ _ (g.S.Source.left c.args.source.now) (g.S.Source.left c.advance-answer.new.source) (over-given _ c.in_default.is w.if-self.true) gives)
+      | else-self w ↦
+          let gives = rw w.self-inside-is at c.advance-answer.ensures.gives in
+          rw (← c.self.view_is, w.self-inside-is) (settled_by c.advance-answer.result c.self.inside.text _ _ (g.S.Source.left c.args.source.now) (g.S.Source.left c.advance-answer.new.source) (over-begun _ c.in_default.is w.if-self.false) gives)
+    ]

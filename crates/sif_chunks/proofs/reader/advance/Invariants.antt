@@ -1,0 +1,15 @@
+use Rattle.std.proofs.Common.{◌≡◌, ◌+◌, ◌-◌, ◌*◌, ◌≤◌, ℕ, List}
+use Rattle.sif_chunks.specs.Reading.{max_input}
+use Rattle.sif_chunks.specs.Turn.{Moves, judged_of, progress}
+use Rattle.sif_chunks.proofs.reader.advance.Given as goal
+
+-- the answer is still to come, and is what it was
+abbrev pub invariant-loop-answer : goal.invariant-loop-answer
+invariant-loop-answer g l = record {
+  moves : (got : List ℕ) × Moves l.fn.text l.fn.window (g.S.Source.left l.fn.source) l.text l.window (g.S.Source.left l.source) got;
+  moved : judged_of l.fn.window ≤ judged_of l.window;
+  faults : g.S.Source.faults l.source ≡ g.S.Source.faults l.fn.source;
+}
+
+abbrev pub decreases-loop-answer : goal.decreases-loop-answer
+decreases-loop-answer g l = 2 * max_input + 1 - progress l.window
