@@ -1,6 +1,7 @@
 pub mod SplitLemmas
 pub mod SplitLaw
 pub mod WrittenLaw
+pub mod WriterLemmas
 pub mod StepLemmas
 pub mod WindowLemmas
 pub mod Ahead
