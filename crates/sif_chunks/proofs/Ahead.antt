@@ -1,10 +1,10 @@
 -- Answers over what stands behind a text.
-use Rattle.std.proofs.Common.{◌≡◌, ◌≢◌, ◌+◌, ◌-◌, ◌<◌, ◌≤◌, ℕ, zero, suc, Bool, true, false, List, [], ◌∷◌, ◌++◌, take, drop, length, refl, ap, sym, ◌∙◌, arith, append_assoc, ltb, inl, inr, ◌⊎◌}
+use Rattle.std.proofs.Common.{◌≡◌, ◌<◌, ◌≤◌, ℕ, Bool, true, false, List, [], ◌∷◌, ◌++◌, drop, length, refl, ap, sym, ◌∙◌, arith, append_assoc, ltb, inl, inr}
 use Rattle.std.proofs.lemmas.List.{append-nil, length-append, take_at}
 use Rattle.std.proofs.lemmas.Bool.Decides.{eqb_tells}
 use Rattle.sif_chunks.specs.Split.{Parts, onto, with_text, parts_of}
 use Rattle.sif_chunks.specs.Step.{GoesOn, IsCut, IsSpent, BeginsText}
-use Rattle.sif_chunks.specs.Reading.{Answer, answer_over, answer_in, stopped, ahead, ahead_of, is_white, max_text}
+use Rattle.sif_chunks.specs.Reading.{answer_in, stopped, ahead, ahead_of, is_white, max_text}
 use Rattle.sif_chunks.specs.declared.next.Next.TheVariants.{Element, End, Unfinished, TooLong, InputTooLong}
 use Rattle.sif_chunks.proofs.SplitLemmas.{onto-nil, onto-onto, eqb-not}
 

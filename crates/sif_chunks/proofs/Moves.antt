@@ -1,11 +1,11 @@
 -- What a reader does, one move after another, over what the source has left where it tells it.
-use Rattle.std.proofs.Common.{◌≡◌, ◌+◌, ◌-◌, ◌*◌, ◌<◌, ◌≤◌, ℕ, zero, suc, Bool, true, false, List, [], ◌∷◌, ◌++◌, take, drop, length, Option, None, Some, IfSome, refl, ap, sym, ◌∙◌, arith, append_assoc, leb, inl, inr, ◌⊎◌}
+use Rattle.std.proofs.Common.{◌≡◌, ◌+◌, ◌-◌, ◌≤◌, ℕ, zero, suc, Bool, true, false, List, [], ◌∷◌, ◌++◌, take, length, Option, None, Some, IfSome, refl, ap, ◌∙◌, arith, append_assoc, leb, inl, inr}
 use Rattle.std.proofs.Math.Seq.{take-nil}
 use Rattle.std.specs.Option.{option_map}
 use Rattle.std.specs.Io.KnownBytes.{prepend_known}
-use Rattle.std.proofs.lemmas.List.{append-nil, length-append}
+use Rattle.std.proofs.lemmas.List.{length-append}
 use Rattle.st_base.proofs.Known.{prepend_known-append}
-use Rattle.sif_chunks.specs.Reading.{Answer, answer_at, answer_over, tells, tells_over, ahead, ahead_of, is_ended, stopped, Takes, Follows, IsLast, IsOpen, Settles, max_input}
+use Rattle.sif_chunks.specs.Reading.{Answer, answer_at, tells, ahead, ahead_of, is_ended, stopped, Takes, Follows, Settles, max_input}
 use Rattle.sif_chunks.specs.Turn.{Moves, Gives, Ends}
 use Rattle.sif_chunks.specs.Window.{Held}
 use Rattle.sif_chunks.specs.declared.next.Next.{Next}

@@ -1,5 +1,5 @@
 -- What a reader answers next, by what it keeps.
-use Rattle.std.proofs.Common.{◌≡◌, ◌+◌, ◌++◌, ℕ, Bool, true, false, List, [], Option, None, Some, refl, ap, sym, ◌∙◌, inl, inr}
+use Rattle.std.proofs.Common.{◌≡◌, ◌+◌, ◌++◌, ℕ, Bool, true, false, List, [], Option, None, Some, refl, ap, ◌∙◌, inl, inr}
 use Rattle.std.specs.Option.{option_map}
 use Rattle.sif_chunks.specs.Answers.{next_of}
 use Rattle.sif_chunks.specs.Reading.{Reader, Answer, answer_at, tells, ahead, ahead_of, stopped, outlook, told, outlook_over, told_over, Settles, Settled}

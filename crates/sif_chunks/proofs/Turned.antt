@@ -1,18 +1,16 @@
 -- Each way out of a turn, over plain states.
-use Rattle.std.proofs.Common.{◌≡◌, ◌≢◌, ◌+◌, ◌-◌, ◌*◌, ◌<◌, ◌≤◌, ℕ, Bool, true, false, List, [], ◌∷◌, ◌++◌, take, drop, length, Option, None, Some, IfSome, refl, ap, sym, ◌∙◌, arith, leb, eqb, append_assoc, inl}
+use Rattle.std.proofs.Common.{◌≡◌, ◌+◌, ◌-◌, ◌<◌, ◌≤◌, ℕ, true, false, List, [], ◌∷◌, ◌++◌, drop, length, Option, None, Some, refl, ap, sym, ◌∙◌, arith, eqb, append_assoc, inl}
 use Rattle.std.specs.Option.{option_map}
 use Rattle.std.specs.Io.KnownBytes.{prepend_known}
-use Rattle.std.proofs.lemmas.List.{length-append, length-drop, append-nil}
+use Rattle.std.proofs.lemmas.List.{length-append, length-drop}
 use Rattle.sif_chunks.specs.Step.{Steps, IsSpent}
-use Rattle.sif_chunks.specs.declared.step.Step.{Step}
 use Rattle.sif_chunks.specs.declared.step.Step.TheVariants.{Doubled, Separator, TooLong as TooLongStep, More}
-use Rattle.sif_chunks.specs.Reading.{Answer, answer_at, tells, ahead, ahead_of, is_ended, stopped, Takes, Settles, is_white, max_text, max_input}
+use Rattle.sif_chunks.specs.Reading.{answer_at, tells, ahead, is_ended, stopped, is_white, max_text, max_input}
 use Rattle.sif_chunks.specs.Turn.{Moves, Gives, Ends, progress}
 use Rattle.sif_chunks.specs.Window.{Held, Gains}
-use Rattle.sif_chunks.specs.declared.next.Next.{Next}
 use Rattle.sif_chunks.specs.declared.next.Next.TheVariants.{Element, End, Unfinished, TooLong, InputTooLong, ReadFault}
 use Rattle.sif_chunks.proofs.Ahead.{goes_on, cut-white, cut-element, goes_on-too_long, ended-text, ended-element, spent-white, spent-open, spent-bang}
-use Rattle.sif_chunks.proofs.Moves.{takes_none, gives_at, moves_moves, moves_gives, at_end, tells_at_end}
+use Rattle.sif_chunks.proofs.Moves.{takes_none, gives_at, at_end, tells_at_end}
 
 -- the bytes in hand without the first of them
 abbrev pub passed : Held → ℕ → Held

@@ -1,5 +1,5 @@
 -- The bytes in hand as a slice of the window.
-use Rattle.std.proofs.Common.{◌≡◌, ◌+◌, ◌-◌, ◌≤◌, ◌<◌, ℕ, zero, suc, List, [], ◌∷◌, ◌++◌, take, drop, length, refl, ap, sym, ◌∙◌, arith, append_assoc}
+use Rattle.std.proofs.Common.{◌≡◌, ◌+◌, ◌-◌, ◌≤◌, ℕ, List, ◌++◌, take, drop, length, ap, sym, ◌∙◌, arith, append_assoc}
 use Rattle.std.proofs.lemmas.List.{drop-take, drop-drop, length-drop, length-take-le, length-take, take-append-le, take-take}
 use Rattle.std.proofs.Math.Seq.{take-append-add, take-append_seam}
 use borrow.Rule.Slice.PartMut.{put_mid, post_of}

@@ -1,8 +1,8 @@
 -- What is written of bytes with each bang twice, run by run.
-use Rattle.std.proofs.Common.{◌≡◌, ◌≢◌, ◌+◌, ◌-◌, ◌<◌, ◌≤◌, ℕ, zero, suc, Bool, List, [], ◌∷◌, ◌++◌, take, drop, length, get_or, Option, Result, Ok, Err, refl, ap, sym, ◌∙◌, subst, arith, append_assoc, inl, inr}
+use Rattle.std.proofs.Common.{◌≡◌, ◌≢◌, ◌+◌, ◌<◌, ◌≤◌, ℕ, List, [], ◌∷◌, ◌++◌, take, drop, length, get_or, Option, Result, Ok, Err, refl, ap, sym, ◌∙◌, subst, arith, append_assoc, inl, inr}
 use Rattle.std.specs.Result.{OnErr}
 use Rattle.std.specs.Io.KnownBytes.{append_known}
-use Rattle.std.proofs.lemmas.List.{take-append-drop, take-append-le, drop-drop, drop_more, take_more, length-drop, append-nil}
+use Rattle.std.proofs.lemmas.List.{take-append-drop, drop_more, take_more, length-drop, get_or-drop}
 use Rattle.std.proofs.lemmas.Bool.Decides.{eqb_tells}
 use Rattle.std.proofs.Math.Seq.{take-append_seam}
 use Rattle.st_base.specs.Streams.{GainsPrefix}
@@ -95,14 +95,8 @@ part_of_bang old now new bytes at so_far low bang part =
     subst (GainsPrefix old new) (sym (doubled_whole bytes at ∙ ap (λ (xs : List ℕ). doubled (take at bytes) ++ xs) rest))
     (gains_behind old now new (doubled (take at bytes)) (33 ∷ 33 ∷ []) (doubled (drop (at + 1) bytes)) so_far part)
 
-get_or-drop_at : (bytes : List ℕ) (at run : ℕ) → get_or (drop at bytes) run 0 ≡ get_or bytes (at + run) 0
-get_or-drop_at [] zero run = refl
-get_or-drop_at [] (suc at) run = refl
-get_or-drop_at (b ∷ bs) zero run = let same : 0 + run ≡ run = omega arith in rw same refl
-get_or-drop_at (b ∷ bs) (suc at) run = let same : suc at + run ≡ suc (at + run) = omega arith in rw same (get_or-drop_at bs at run)
-
 pub bang_at : (bytes : List ℕ) (at run : ℕ) → run < length (drop at bytes) → (run < length (drop at bytes) → get_or (drop at bytes) run 0 ≡ 33) → get_or bytes (at + run) 0 ≡ 33
-bang_at bytes at run low bang = sym (get_or-drop_at bytes at run) ∙ bang low
+bang_at bytes at run low bang = sym (get_or-drop at bytes run 0) ∙ bang low
 
 pub run_within : (bytes : List ℕ) (at run : ℕ) → at ≤ length bytes → run ≤ length (drop at bytes) → at + run ≤ length bytes
 run_within bytes at run low fits = omega (arith, length-drop at bytes)

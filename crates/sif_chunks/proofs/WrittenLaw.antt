@@ -1,7 +1,7 @@
 -- What a writer wrote is split into the texts that it was given.
-use Rattle.std.proofs.Common.{◌≡◌, ◌≢◌, ℕ, List, [], ◌∷◌, ◌++◌, refl, ap, sym, ◌∙◌, append_assoc, arith}
+use Rattle.std.proofs.Common.{◌≡◌, ℕ, List, [], ◌∷◌, ◌++◌, refl, ap, ◌∙◌, append_assoc, arith}
 use Rattle.sif_chunks.specs.Split.{Split, doubled, joined, IsSeparated, BeginsWithNoBang}
-use Rattle.sif_chunks.specs.Writing.{closing, closed, all_closed, on_new_lines}
+use Rattle.sif_chunks.specs.Writing.{closing, all_closed, on_new_lines}
 
 -- a line end, and then elements
 behind : (texts : List (List ℕ)) → 10 ∷ all_closed texts ≡ joined (on_new_lines texts) (10 ∷ [])

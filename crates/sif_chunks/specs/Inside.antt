@@ -1,5 +1,5 @@
 -- A reader as it is kept, and what it is seen as.
-use Rattle.std.specs.Prelude.{◌≡◌, false, IfSome, None, ℕ, ◌+◌, ◌≤◌, Bool, List, length, if◌then◌else◌}
+use Rattle.std.specs.Prelude.{◌≡◌, false, IfSome, None, ◌+◌, ◌≤◌, if◌then◌else◌}
 use Rattle.sif_chunks.specs.Reading.{Reader, max_input}
 use Rattle.sif_chunks.specs.Turn.{judged_of}
 use Rattle.sif_chunks.specs.declared.reader.ChunkReader.TheInside.{Inside}

@@ -1,6 +1,6 @@
 -- What one step over the bytes does to a text, whatever follows the bytes.
 use Rattle.std.specs.Prelude.{◌≡◌, ◌≢◌, ◌<◌, ◌≤◌, ℕ, Bool, List, [], ◌∷◌, ◌++◌, length, drop}
-use Rattle.sif_chunks.specs.Split.{Parts, onto, with_text, parts_of}
+use Rattle.sif_chunks.specs.Split.{onto, with_text, parts_of}
 use Rattle.sif_chunks.specs.Reading.{max_text}
 use Rattle.sif_chunks.specs.declared.step.Step.{Step}
 use Rattle.sif_chunks.specs.declared.step.Step.TheVariants.{Doubled, Separator, TooLong, More}

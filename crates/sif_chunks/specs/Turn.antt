@@ -1,5 +1,5 @@
 -- One turn of a reader, and what it leaves of the answer.
-use Rattle.std.specs.Prelude.{◌≡◌, ◌+◌, ◌-◌, ◌*◌, ◌<◌, ◌≤◌, ℕ, List, [], false, length, Option, None, Some}
+use Rattle.std.specs.Prelude.{◌≡◌, ◌-◌, ◌*◌, ◌<◌, ◌≤◌, ℕ, List, [], false, length, Option, None, Some}
 use Rattle.std.specs.Option.{option_map}
 use Rattle.sif_chunks.specs.Reading.{answer_at, tells, ahead, ahead_of, stopped, Takes, Follows, Settles, max_input}
 use Rattle.sif_chunks.specs.Window.{Held}

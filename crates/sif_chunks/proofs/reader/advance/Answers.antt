@@ -1,4 +1,4 @@
-use Rattle.std.proofs.Common.{arith, ◌<◌, ◌≤◌, ◌≡◌, ◌∙◌, [], ◌++◌, refl}
+use Rattle.std.proofs.Common.{arith, ◌∙◌, [], ◌++◌, refl}
 use Rattle.sif_chunks.proofs.Moves.{moves_none, moves_moves, moves_gives}
 use Rattle.sif_chunks.proofs.reader.advance.Goals as goal
 

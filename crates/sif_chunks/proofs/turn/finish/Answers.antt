@@ -1,5 +1,4 @@
-use Rattle.std.proofs.Common.{◌≡◌, ◌≢◌, ◌∙◌, [], sym, arith, ◌≤◌, ◌<◌, length, ℕ, List, eqb, true, false}
-use Rattle.std.proofs.lemmas.List.{nil_from_length}
+use Rattle.std.proofs.Common.{◌∙◌, sym}
 use Rattle.sif_chunks.proofs.Turned.{ends-white, ends-unfinished, ends-element, none_left, some_left}
 use Rattle.sif_chunks.proofs.turn.finish.Goals as goal
 

@@ -1,10 +1,9 @@
 -- Each way out of a turn.
-use Rattle.std.proofs.Common.{◌≡◌, ◌∙◌, [], List, ℕ, ◌≤◌, length, sym, arith}
-use Rattle.sif_chunks.specs.Step.{Steps, IsSpent}
+use Rattle.std.proofs.Common.{◌∙◌, [], ◌≤◌, length, sym}
+use Rattle.sif_chunks.specs.Step.{Steps}
 use Rattle.sif_chunks.specs.Window.{Held}
 use Rattle.sif_chunks.specs.declared.step.Step.TheVariants.{Doubled, Separator, TooLong as TooLongStep, More}
 use Rattle.sif_chunks.specs.declared.next.Next.TheVariants.{InputTooLong, ReadFault}
-use Rattle.sif_chunks.specs.Turn.{Moves}
 use Rattle.sif_chunks.proofs.Moves.{moves_moves, moves_gives, end_gives}
 use Rattle.sif_chunks.proofs.Turned.{passed, after_doubled, after_white, after_more, after_element, after_too_long, after_bytes, after_beyond, after_fault, further, further_bytes}
 use Rattle.sif_chunks.proofs.turn.turn.Goals as goal
@@ -44,11 +43,13 @@ returns-in-Some-clause-turns g c =
     let rest : Held = passed c.args.window.now c.go_on-count.result.0 in
     let came = rw c.pass.ensures at c.in-Some.ensures.bytes in
     let left = g.S.Source.left c.args.source.now in
-    let now = g.S.Source.left c.refill.new.source in
-    (
-      (came.0.0, moves_moves c.args.text.now c.go_on-count.new.text c.go_on-count.new.text c.args.window.now rest c.refill.new.self left left now [] came.0.0
-        (after_more c.args.text.now c.go_on-count.new.text c.args.window.now c.go_on-count.result.0 left c.requires steps)
-        (after_bytes c.go_on-count.new.text rest c.refill.new.self left now came.0.0 came.1 came.0.1)),
+    let now = g.S.Source.left c.refill.new.source in (
+      (
+        came.0.0,
+        moves_moves c.args.text.now c.go_on-count.new.text c.go_on-count.new.text c.args.window.now rest c.refill.new.self left left now [] came.0.0
+            (after_more c.args.text.now c.go_on-count.new.text c.args.window.now c.go_on-count.result.0 left c.requires steps)
+            (after_bytes c.go_on-count.new.text rest c.refill.new.self left now came.0.0 came.1 came.0.1),
+      ),
       further_bytes c.args.window.now c.refill.new.self left now c.go_on-count.result.0 came.0.0 counted steps.within came.0.1,
     )
 

@@ -1,4 +1,4 @@
-use Rattle.std.proofs.Common.{◌≡◌, ◌∙◌, ◌+◌, Some, None, [], sym, ap, ℕ, List}
+use Rattle.std.proofs.Common.{[]}
 use Rattle.sif_chunks.proofs.Outlooks.{repeated, repeated_settled, outlook-given, outlook-begun, over-given, over-begun, answered, settled_by}
 use Rattle.sif_chunks.proofs.reader.ChunkReader.next.Goals as goal
 use Rattle.sif_chunks.proofs.reader.ChunkReader.next.Goals.{then-self, else-self}

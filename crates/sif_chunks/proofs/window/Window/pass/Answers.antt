@@ -1,4 +1,4 @@
-use Rattle.std.proofs.Common.{◌≡◌, ap, ℕ, List}
+use Rattle.std.proofs.Common.{ap, ℕ, List}
 use Rattle.sif_chunks.specs.Window.{Held}
 use Rattle.sif_chunks.proofs.WindowLemmas.{slice_passed}
 use Rattle.sif_chunks.proofs.window.Window.pass.Goals as goal

@@ -1,4 +1,4 @@
-use Rattle.std.proofs.Common.{◌≡◌, ◌≢◌, ◌∙◌, ◌+◌, ◌-◌, ◌≤◌, ◌<◌, ℕ, List, take, drop, length, arith}
+use Rattle.std.proofs.Common.{◌∙◌, ◌+◌, ◌<◌, length, arith}
 use Rattle.std.proofs.lemmas.List.{take_rest}
 use Rattle.sif_chunks.proofs.WriterLemmas.{on_err, part_of_run, after_run, after_bang, part_of_bang, bang_at, run_within, bang_within}
 use Rattle.sif_chunks.proofs.writer.ChunkWriter.piece.Goals as goal

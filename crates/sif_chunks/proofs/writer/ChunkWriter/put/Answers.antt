@@ -1,4 +1,4 @@
-use Rattle.std.proofs.Common.{◌≡◌, []}
+use Rattle.std.proofs.Common.{[]}
 use Rattle.std.proofs.lemmas.Result.{on_err_weaker}
 use Rattle.sif_chunks.specs.Split.{doubled}
 use Rattle.sif_chunks.specs.Writing.{closing}
