@@ -116,11 +116,13 @@ told answer reader left = tells answer reader.number reader.text reader.pending 
 abbrev pub judged : Reader → ℕ
 judged reader = reader.taken - length reader.pending
 
--- The answer about the element with this number and this text so far, where these bytes were taken and not judged.
--- Where the input doesn't end, `InputTooLong` stands for what its bytes leave open.
+-- The answer about the element with this number and this text so far, where the first bytes were taken and not judged
+-- and the last would come, whether the input ended behind them or not. Where it doesn't, `InputTooLong` stands for what
+-- these bytes leave open.
 abbrev pub ahead : ℕ → List ℕ → List ℕ → Bool → List ℕ → Answer
 ahead number text pending ended bytes = answer_over number text ended (pending ++ bytes)
 
+-- what an answer says of the bytes behind its text, likewise
 abbrev pub ahead_of : Next → ℕ → List ℕ → List ℕ → Bool → List ℕ → Answer
 ahead_of answer number text pending ended bytes = tells_over answer number text ended (pending ++ bytes)
 
@@ -130,11 +132,11 @@ over_unless None reader ended bytes =
     else ahead reader.number reader.text reader.pending ended bytes
 over_unless (Some stop) reader ended bytes = stopped (next_of stop) reader.number reader.text
 
--- what a reader would answer next
+-- what a reader would answer next if these bytes came, whether the input ended behind them or not
 unfoldable pub outlook_over : Reader → Bool → List ℕ → Answer
 outlook_over reader ended bytes = over_unless reader.stop reader ended bytes
 
--- what an answer says of the reader that it leaves
+-- what an answer says of the reader that it leaves, likewise
 unfoldable pub told_over : Next → Reader → Bool → List ℕ → Answer
 told_over answer reader ended bytes = ahead_of answer reader.number reader.text reader.pending ended bytes
 
@@ -167,7 +169,8 @@ Settles Unfinished before got open_end after pending now = Unit {0}
 Settles TooLong before got open_end after pending now = Unit {0}
 Settles InputTooLong before got open_end after pending now = Unit {0}
 
--- how an answer follows from the bytes that were taken for it
+-- Some bytes were taken and counted, and an element or a read fault follows from these alone: an element whatever
+-- comes behind them, or at the end of the input; after a read fault they leave every other answer open.
 abbrev pub Settled : Next → Reader → Option (List ℕ) → Reader → Option (List ℕ) → Type 0
 Settled answer old left new now =
     (got : List ℕ) × Takes old.taken new.taken left now got

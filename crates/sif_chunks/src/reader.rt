@@ -35,8 +35,8 @@ fn advance<S: Source>(window: &mut Window, text: &mut ElementText, source: &mut 
     }
 }
 
-/// Reads the elements of a file, whichever way the source divides it. It takes its memory when it
-/// is made.
+/// Reads the elements of an interchange file (ANSI NCITS 319, section 4), whichever way the source
+/// divides it. It takes its memory when it is made.
 #[derive(Drop)]
 pub struct ChunkReader {
     window: Window,
@@ -74,7 +74,8 @@ impl ChunkReader {
         })
     }
 
-    /// Reads on to the next element that isn't white.
+    /// Reads on to the next element that has more than white space. It takes no memory, and no byte
+    /// more than it needs to find an input too long.
     pub fn next<S: Source>(&mut self, source: &mut S) -> Next
         ensures answer { option_map (outlook self.old) (S.left source.old) ≡ option_map (told result self.new) (S.left source.new) }
         ensures settled { Settled result self.old (S.left source.old) self.new (S.left source.new) }
