@@ -3,3 +3,7 @@ pub mod SpanLemmas
 pub mod NumberLemmas
 pub mod Fronts
 pub mod Scanning
+pub mod Runs
+pub mod Quotes
+pub mod Selectors
+pub mod Sound
