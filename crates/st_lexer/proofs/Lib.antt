@@ -7,3 +7,5 @@ pub mod Runs
 pub mod Quotes
 pub mod Selectors
 pub mod Sound
+pub mod Cover
+pub mod LexesLaw

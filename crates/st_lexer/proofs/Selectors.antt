@@ -141,7 +141,7 @@ between_next (c ∷ cs) n letter is = rw letter (next (keywords_len true cs) (wo
     next None is = absurd (cc)
     next (Some k) is = is
 
-keywords_begin : {t : List ℕ} → AreKeywords t → (v : List ℕ) → begins is_letter (t ++ v) ≡ true
+pub keywords_begin : {t : List ℕ} → AreKeywords t → (v : List ℕ) → begins is_letter (t ++ v) ≡ true
 keywords_begin (last_keyword name word e) v = subst (λ (t : List ℕ). begins is_letter (t ++ v) ≡ true) (sym e) (rw append_assoc (identifier_begins name (58 ∷ v) word))
 keywords_begin (next_keyword name rest word e more) v = subst (λ (t : List ℕ). begins is_letter (t ++ v) ≡ true) (sym e) (rw append_assoc (identifier_begins name (58 ∷ (rest ++ v)) word))
 
@@ -152,7 +152,7 @@ letter_equals (c ∷ cs) is = elim (eqb_tells c 61) [
     | inr other ↦ other.0
   ]
 
-colon_of : (r : List ℕ) → begins (λ c. c == 61) r ≡ false → begins_colon (58 ∷ r) ≡ true
+pub colon_of : (r : List ℕ) → begins (λ c. c == 61) r ≡ false → begins_colon (58 ∷ r) ≡ true
 colon_of r off = rw off refl
 
 -- how far keywords go before these bytes
