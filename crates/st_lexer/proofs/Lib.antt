@@ -1,0 +1,9 @@
+mod Examples
+pub mod SpanLemmas
+pub mod NumberLemmas
+pub mod Fronts
+pub mod Scanning
+pub mod Runs
+pub mod Quotes
+pub mod Selectors
+pub mod Sound
