@@ -1,0 +1,5 @@
+pub mod TranscriptLemmas
+pub mod ElementLemmas
+pub mod Verdicts
+pub mod Taken
+pub mod TopLemmas

@@ -1,0 +1,320 @@
+// Worked inputs, each cut in two ways, and devices that fail.
+use super::*;
+use st_base::{MemorySink, MemorySource};
+use std::alloc::Global;
+use std::process::Abort;
+use std::test::Fail;
+
+const VERSION: &[u8] = b"Smalltalk interchangeVersion: '1.0'!\n";
+
+const HELLO: &[u8] =
+    b"Smalltalk interchangeVersion: '1.0'!\nGlobal initializer!Transcript show: 'hi'; cr!";
+
+// How many bytes each of a source's first calls gives at most, and which call of a device fails.
+#[derive(Clone, Copy)]
+struct Devices {
+    piece: usize,
+    pieces: usize,
+    source_fails: Option<u64>,
+    out_fails: Option<u64>,
+    report_fails: Option<u64>,
+}
+
+const WHOLE: Devices = Devices {
+    piece: 1,
+    pieces: 0,
+    source_fails: None,
+    out_fails: None,
+    report_fails: None,
+};
+
+// What comes of a call: the status, what is written, and how often a device fails.
+#[derive(Clone, Copy)]
+struct Wanted<'a> {
+    status: u8,
+    out: &'a [u8],
+    report: &'a [u8],
+    faults: u64,
+}
+
+fn calls(alloc: Global, failing: Option<u64>) -> Result<Vec<u64>, Fail> {
+    let mut calls = Vec::new(alloc);
+    if let Some(call) = failing {
+        calls.push(call)?;
+    }
+    Ok(calls)
+}
+
+// Runs a word over an input in memory, and compares all that comes of it.
+fn check(
+    rt: &impl Abort,
+    alloc: Global,
+    word: &str,
+    input: &[u8],
+    devices: Devices,
+    wanted: Wanted,
+) -> Result<(), Fail> {
+    let mut words = Vec::new(alloc);
+    words.push(String::from_str(alloc, word)?)?;
+    let cuts = vec![in alloc; devices.piece; devices.pieces]?;
+    let failing = calls(alloc, devices.source_fails)?;
+    let mut source = MemorySource::new(Vec::from_slice(alloc, input)?, cuts, failing);
+    let mut out = MemorySink::new(alloc, 1000, calls(alloc, devices.out_fails)?)?;
+    let mut report = MemorySink::new(alloc, 1000, calls(alloc, devices.report_fails)?)?;
+    let status = stx(alloc, &words, &mut source, &mut out, &mut report);
+    assert_eq!(rt; status, wanted.status, "of {word}");
+    assert!(rt; out.written() == wanted.out, "output of {word}");
+    assert!(rt; report.written() == wanted.report, "report of {word}");
+    let faults = source
+        .faults()
+        .saturating_add(out.faults())
+        .saturating_add(report.faults());
+    assert_eq!(rt; faults, wanted.faults);
+    Ok(())
+}
+
+// Runs an input whole and in pieces.
+fn check_cut(
+    rt: &impl Abort,
+    alloc: Global,
+    input: &[u8],
+    piece: usize,
+    wanted: Wanted,
+) -> Result<(), Fail> {
+    check(rt, alloc, "run", input, WHOLE, wanted)?;
+    let pieces = 20_000;
+    check(
+        rt,
+        alloc,
+        "run",
+        input,
+        Devices {
+            piece,
+            pieces,
+            ..WHOLE
+        },
+        wanted,
+    )
+}
+
+fn shown(out: &[u8]) -> Wanted {
+    Wanted {
+        status: 0,
+        out,
+        report: b"",
+        faults: 0,
+    }
+}
+
+fn refused(report: &[u8]) -> Wanted {
+    Wanted {
+        status: 1,
+        out: b"",
+        report,
+        faults: 0,
+    }
+}
+
+#[derive(Clone, Copy)]
+struct Row {
+    body: &'static [u8],
+    wanted: Wanted<'static>,
+}
+
+#[test]
+fn bodies_are_shown_or_refused(rt: HostRuntime) -> Result<(), Fail> {
+    let rows = [
+        Row {
+            body: b"Transcript show: 'hi'; cr!",
+            wanted: shown(b"hi\n"),
+        },
+        Row {
+            body: b"Transcript show: 'a!!b'!",
+            wanted: shown(b"a!b"),
+        },
+        Row {
+            body: b"\"c\" Transcript show: 'it''s'. Transcript cr; cr. ! !",
+            wanted: shown(b"it's\n\n"),
+        },
+        Row {
+            body: b"",
+            wanted: refused(b"stx: refused element 3 byte 0 MissingText\n"),
+        },
+        Row {
+            body: b"Transcript show: 'hi'; cr",
+            wanted: refused(b"stx: refused element 3 byte 25 Unfinished\n"),
+        },
+        Row {
+            body: b"Transcript show: 'hi'!3 + 4!",
+            wanted: refused(b"stx: refused element 4 byte 0 Unbuilt\n"),
+        },
+        Row {
+            body: b"Transcript show: {!",
+            wanted: refused(b"stx: refused element 3 byte 0 Unbuilt\n"),
+        },
+    ];
+    for row in &rows {
+        let mut input = Vec::from_slice(rt.alloc(), VERSION)?;
+        input.extend_from_slice(b"Global initializer!")?;
+        input.extend_from_slice(row.body)?;
+        check_cut(&rt, rt.alloc(), &input, 1, row.wanted)?;
+    }
+    Ok(())
+}
+
+// Where and why the first n bytes of the greeting are refused.
+fn refusal_of_first(n: usize) -> Option<(u32, usize, &'static str)> {
+    match n {
+        0 => Some((1, 0, "MissingVersion")),
+        1..=35 => Some((1, n, "Unfinished")),
+        38..=55 => Some((2, n - 36, "Unfinished")),
+        56 => Some((3, 0, "MissingText")),
+        57..=81 => Some((3, n - 56, "Unfinished")),
+        _ => None,
+    }
+}
+
+#[test]
+fn each_first_part_has_its_answer(rt: HostRuntime) -> Result<(), Fail> {
+    for n in 0..83 {
+        let first = HELLO.get(..n).ok_or("short")?;
+        match refusal_of_first(n) {
+            Some((element, byte, reason)) => {
+                let line = format!(in rt.alloc();
+                    "stx: refused element {element} byte {byte} {reason}\n"
+                )?;
+                check_cut(&rt, rt.alloc(), first, 1, refused(line.as_bytes()))?;
+            }
+            None if n == 82 => check_cut(&rt, rt.alloc(), first, 1, shown(b"hi\n"))?,
+            None => check_cut(&rt, rt.alloc(), first, 1, shown(b""))?,
+        }
+    }
+    Ok(())
+}
+
+// A header with so many spaces behind it, whose text is 19 bytes longer, and its body.
+fn padded_header(alloc: Global, spaces: usize) -> Result<Vec<u8>, Fail> {
+    let mut input = Vec::from_slice(alloc, VERSION)?;
+    input.extend_from_slice(b"Global initializer")?;
+    input.extend_from_slice(&vec![in alloc; b' '; spaces]?)?;
+    input.extend_from_slice(b"!Transcript cr!")?;
+    Ok(input)
+}
+
+// A version and white elements, which are 16,000,053 bytes, and so many spaces.
+fn padded_end(alloc: Global, spaces: usize) -> Result<Vec<u8>, Fail> {
+    let mut input = Vec::from_slice(alloc, VERSION)?;
+    let mut white = vec![in alloc; b' '; 1_000_000]?;
+    white.push(b'!')?;
+    for _ in 0..16 {
+        input.extend_from_slice(&white)?;
+    }
+    input.extend_from_slice(&vec![in alloc; b' '; spaces]?)?;
+    Ok(input)
+}
+
+#[test]
+fn lengths_hold_to_the_byte(rt: HostRuntime) -> Result<(), Fail> {
+    let alloc = rt.alloc();
+    check_cut(
+        &rt,
+        alloc,
+        &padded_header(alloc, 1_048_557)?,
+        1000,
+        shown(b"\n"),
+    )?;
+    let long = refused(b"stx: refused element 2 byte 1048576 ElementTooLong\n");
+    check_cut(&rt, alloc, &padded_header(alloc, 1_048_558)?, 1000, long)?;
+    check_cut(&rt, alloc, &padded_end(alloc, 777_163)?, 1000, shown(b""))?;
+    let long = refused(b"stx: refused element 2 byte 777163 InputTooLong\n");
+    check_cut(&rt, alloc, &padded_end(alloc, 777_164)?, 1000, long)
+}
+
+#[test]
+fn devices_that_fail_are_told(rt: HostRuntime) -> Result<(), Fail> {
+    let alloc = rt.alloc();
+    let call = Some(0);
+    let read = Wanted {
+        status: 8,
+        out: b"",
+        report: b"stx: read fault\n",
+        faults: 1,
+    };
+    let write = Wanted {
+        status: 9,
+        out: b"",
+        report: b"",
+        faults: 1,
+    };
+    let usage = Wanted {
+        status: 2,
+        out: b"",
+        report: b"stx: usage: stx [options] run|check|list|export|gen\n",
+        faults: 0,
+    };
+    check(
+        &rt,
+        alloc,
+        "run",
+        HELLO,
+        Devices {
+            source_fails: call,
+            ..WHOLE
+        },
+        read,
+    )?;
+    check(
+        &rt,
+        alloc,
+        "run",
+        HELLO,
+        Devices {
+            out_fails: call,
+            ..WHOLE
+        },
+        write,
+    )?;
+    check(
+        &rt,
+        alloc,
+        "fly",
+        HELLO,
+        Devices {
+            report_fails: call,
+            ..WHOLE
+        },
+        write,
+    )?;
+    check(&rt, alloc, "fly", HELLO, WHOLE, usage)?;
+
+    // A refusal that the bytes taken settle is told, though a later call would fail.
+    let mut input = Vec::from_slice(alloc, VERSION)?;
+    input.extend_from_slice(b"Global initializer!3 +!x")?;
+    let bytes = Devices {
+        pieces: 100,
+        ..WHOLE
+    };
+    let settled = refused(b"stx: refused element 3 byte 0 Unbuilt\n");
+    check(
+        &rt,
+        alloc,
+        "run",
+        &input,
+        Devices {
+            source_fails: Some(61),
+            ..bytes
+        },
+        settled,
+    )?;
+    check(
+        &rt,
+        alloc,
+        "run",
+        &input,
+        Devices {
+            source_fails: Some(60),
+            ..bytes
+        },
+        read,
+    )
+}

@@ -1,0 +1,121 @@
+// Standard input, output and error as a source and sinks. They tell none of their bytes.
+ghost use Rattle.std.specs.Prelude.{None};
+
+use st_base::{Failed, Sink, Source};
+use std::io::{Read, Write};
+use std::rt::{Stderr, Stdin, Stdout};
+
+/// Standard input, with a count of its errors.
+#[derive(Drop)]
+pub struct StdSource {
+    input: Stdin,
+    faults: u64,
+}
+
+impl StdSource {
+    pub fn new(input: Stdin) -> StdSource {
+        StdSource { input, faults: 0 }
+    }
+}
+
+impl Source for StdSource {
+    ghost left = { λ _. None };
+
+    ghost faults = { λ s. s.faults };
+
+    fn take(&mut self, into: &mut [u8]) -> Result<usize, Failed> {
+        match self.input.read(into) {
+            Ok(count) => Ok(count),
+            Err(_) => {
+                self.faults = self.faults.saturating_add(1);
+                Err(Failed)
+            }
+        }
+    }
+}
+
+/// Standard output, with a count of its errors. A write that takes no bytes is one.
+#[derive(Drop)]
+pub struct StdOut {
+    output: Stdout,
+    faults: u64,
+}
+
+impl StdOut {
+    pub fn new(output: Stdout) -> StdOut {
+        StdOut { output, faults: 0 }
+    }
+}
+
+impl Sink for StdOut {
+    ghost written = { λ _. None };
+
+    ghost faults = { λ s. s.faults };
+
+    fn put(&mut self, bytes: &[u8]) -> Result<usize, Failed> {
+        match self.output.write(bytes) {
+            Ok(count) if count > 0 => Ok(count),
+            _ => {
+                self.faults = self.faults.saturating_add(1);
+                Err(Failed)
+            }
+        }
+    }
+}
+
+/// Standard error, with a count of its errors. A write that takes no bytes is one.
+#[derive(Drop)]
+pub struct StdReport {
+    output: Stderr,
+    faults: u64,
+}
+
+impl StdReport {
+    pub fn new(output: Stderr) -> StdReport {
+        StdReport { output, faults: 0 }
+    }
+}
+
+impl Sink for StdReport {
+    ghost written = { λ _. None };
+
+    ghost faults = { λ s. s.faults };
+
+    fn put(&mut self, bytes: &[u8]) -> Result<usize, Failed> {
+        match self.output.write(bytes) {
+            Ok(count) if count > 0 => Ok(count),
+            _ => {
+                self.faults = self.faults.saturating_add(1);
+                Err(Failed)
+            }
+        }
+    }
+}
+
+#[cfg(test)]
+mod tests {
+    use super::*;
+    use st_base::put_all;
+
+    #[test]
+    fn standard_input_gives_bytes_or_its_end(rt: HostRuntime) {
+        let mut source = StdSource::new(rt.stdin());
+        let mut buffer = [0u8; 4];
+        assert!(rt; source.take(&mut buffer).is_ok());
+        assert_eq!(rt; source.faults, 0);
+    }
+
+    #[test]
+    fn standard_output_takes_bytes(rt: HostRuntime) {
+        let mut out = StdOut::new(rt.stdout());
+        assert!(rt; put_all(&mut out, b"out\n").is_ok());
+        assert_eq!(rt; out.faults, 0);
+    }
+
+    #[test]
+    fn standard_error_takes_bytes(rt: HostRuntime) {
+        let mut report = StdReport::new(rt.stderr());
+        assert!(rt; put_all(&mut report, b"report\n").is_ok());
+        assert_eq!(rt; report.faults, 0);
+    }
+}

@@ -1,0 +1,28 @@
+// The program `stx` over standard input, output and error.
+#![tactic(auto)]
+
+mod devices;
+
+use devices::{StdOut, StdReport, StdSource};
+use std::process::ExitCode;
+use std::{env, io};
+
+// The arguments behind the program's name. One that is not UTF-8 makes them no command, as none do.
+fn words(rt: &HostRuntime) -> io::Result<Vec<String>> {
+    match env::args(rt) {
+        Ok(words) => Ok(words.skip(1).collect(rt.alloc())?),
+        Err(error) if error.kind() == io::ErrorKind::InvalidData => Ok(Vec::new(rt.alloc())),
+        Err(error) => Err(error),
+    }
+}
+
+fn main(rt: HostRuntime) -> ExitCode {
+    let mut source = StdSource::new(rt.stdin());
+    let mut out = StdOut::new(rt.stdout());
+    let mut report = StdReport::new(rt.stderr());
+    let status = match words(&rt) {
+        Ok(words) => st_run::stx(rt.alloc(), &words, &mut source, &mut out, &mut report),
+        Err(_) => st_run::report_want_of_memory(&mut report),
+    };
+    ExitCode::from(status)
+}
