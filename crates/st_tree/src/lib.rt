@@ -4,5 +4,7 @@
 mod copy;
 mod copy_units;
 pub mod law;
+#[cfg(test)]
+mod tests;
 pub mod tree;
 pub mod units;
