@@ -1,1 +1,4 @@
 mod Examples
+pub mod Follow
+pub mod Arrays
+pub mod Complete
