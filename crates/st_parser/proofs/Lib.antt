@@ -2,3 +2,4 @@ mod Examples
 pub mod Follow
 pub mod Arrays
 pub mod Complete
+pub mod Sound
