@@ -1,0 +1,5 @@
+mod Examples
+pub mod Follow
+pub mod Arrays
+pub mod Complete
+pub mod Sound
