@@ -3,3 +3,5 @@ pub mod Follow
 pub mod Arrays
 pub mod Complete
 pub mod Sound
+pub mod Rest
+pub mod Words

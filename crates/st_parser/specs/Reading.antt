@@ -152,6 +152,10 @@ number n = if nat_lt n (2 ^ 127) then integer n else literal.Nil
 abbrev pub negated : ℕ → Literal
 negated n = if nat_lt n (2 ^ 127) then negative n else negative (2 ^ 127)
 
+-- the byte behind `$`
+abbrev pub byte_of : List ℕ → ℕ
+byte_of t = slice_index t 1
+
 -- the literal that one token is, and anything where none stands
 abbrev pub literal_of : Option TokenKind → List ℕ → Literal
 literal_of (Some (kind.Integer n)) t = number n

@@ -2,3 +2,4 @@
 #![tactic(auto)]
 
 mod cursor;
+mod literals;
