@@ -5,3 +5,4 @@ pub mod Complete
 pub mod Sound
 pub mod Rest
 pub mod Words
+pub mod ArraySteps

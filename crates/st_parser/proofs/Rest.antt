@@ -1,6 +1,6 @@
 -- The symbols from a place on, at their first.
 use Rattle.std.proofs.Common.{◌≡◌, ◌≤◌, ◌<◌, ℕ, suc, ◌+◌, List, [], ◌∷◌, Bool, true, false, refl, ap, sym, ◌∙◌, subst, map, drop, length, get_or, Some, None, Option, arith, drop-cons, add-one, ◌⊎◌, inl, inr, if◌then◌else◌, slice_get, lt-ltb, le-ltb, ◌-◌, codes}
-use Rattle.std.specs.Prelude.{nat_lt}
+use Rattle.std.specs.Prelude.{nat_lt, not}
 use Rattle.std.specs.Str.{bytes_eq}
 use Rattle.std.proofs.lemmas.Slice.Eq.{bytes_eq-Decides}
 use Rattle.std.proofs.lemmas.Option.{slice_get_cases}
@@ -116,3 +116,7 @@ by_op P t at o m b w h = go (bytes_eq t (codes "-")) (bytes_eq t (codes "|")) (b
     go false false true s = w
     go false false false true = h
     go false false false false = o
+
+-- the same of what is no end
+pub less_not : (tokens : List Token) (at : ℕ) (P : Option TokenKind → Bool) → P None ≡ true → P (kind_at tokens at) ≡ false → length tokens - next tokens at < length tokens - at
+less_not tokens at P o e = less tokens at (λ k. not (P k)) (ap not o) (ap not e)

@@ -13,7 +13,7 @@ use Rattle.st_tree.specs.declared.tree.Statement.{Statement}
 use Rattle.st_tree.specs.declared.tree.Expr.{Expr}
 use Rattle.st_tree.specs.declared.tree.Message.{Message}
 use Rattle.st_tree.specs.declared.tree.Operand.{Operand}
-use Rattle.st_tree.specs.Symbols.{Sym, Id, Key, Op, Minus, Bar, TwoBars, ThreeBars, Assign, Semicolon, sym_of, text_of, string_value, Role, IsName, IsValue, IsSuper, role}
+use Rattle.st_tree.specs.Symbols.{Sym, Id, Key, Op, Minus, Bar, TwoBars, ThreeBars, Assign, Semicolon, sym_of, text_of, string_value, Role, IsName, IsValue, IsSuper, role, word_item}
 use Rattle.st_tree.specs.Trees.{name, variable, integer, negative, constant, message, operand, expr}
 use Rattle.st_tree.specs.declared.tree.Body.{Body}
 use Rattle.st_tree.specs.Grammar.{Tree, BodyTree, MethodTree}
@@ -142,6 +142,15 @@ abbrev pub sign_there : Option TokenKind → List ℕ → Sign
 sign_there (Some kind.Operator) t = sign_of t
 sign_there _ t = sign.Plain
 
+-- `-` stands there, and an integer directly behind it
+abbrev pub is_minus : Sign → Bool
+is_minus sign.Minus = true
+is_minus _ = false
+
+abbrev pub is_negative : List ℕ → List Token → ℕ → Bool
+is_negative source tokens at =
+    if is_minus (sign_there (kind_at tokens at) (text_at source tokens at)) then is_integer_from (kind_at tokens (next tokens at)) (start_at tokens (next tokens at)) (start_at tokens at + 1) else false
+
 -- ---- literals
 
 -- an integer without a sign; one that is too great is never accepted
@@ -164,6 +173,11 @@ literal_of (Some kind.Str) t = literal.Str (string_value t)
 literal_of (Some kind.Symbol) t = literal.Symbol (drop 1 t)
 literal_of (Some kind.QuotedSymbol) t = literal.Symbol (string_value (drop 1 t))
 literal_of _ t = literal.Nil
+
+-- the item of an array that one token is, and anything where none stands
+abbrev pub item_of : Option TokenKind → List ℕ → Literal
+item_of (Some kind.Identifier) t = word_item t
+item_of k t = literal_of k t
 
 -- the literal behind `-`, and anything where no integer stands
 abbrev pub negated_of : Option TokenKind → Literal

@@ -3,3 +3,5 @@
 
 mod cursor;
 mod literals;
+
+mod literal_arrays;
