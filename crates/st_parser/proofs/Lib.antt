@@ -6,3 +6,4 @@ pub mod Sound
 pub mod Rest
 pub mod Words
 pub mod ArraySteps
+pub mod NameSteps

@@ -147,6 +147,18 @@ abbrev pub is_minus : Sign → Bool
 is_minus sign.Minus = true
 is_minus _ = false
 
+abbrev pub is_bar : Sign → Bool
+is_bar sign.Bar = true
+is_bar _ = false
+
+abbrev pub is_two_bars : Sign → Bool
+is_two_bars sign.TwoBars = true
+is_two_bars _ = false
+
+abbrev pub is_three_bars : Sign → Bool
+is_three_bars sign.ThreeBars = true
+is_three_bars _ = false
+
 abbrev pub is_negative : List ℕ → List Token → ℕ → Bool
 is_negative source tokens at =
     if is_minus (sign_there (kind_at tokens at) (text_at source tokens at)) then is_integer_from (kind_at tokens (next tokens at)) (start_at tokens (next tokens at)) (start_at tokens at + 1) else false
@@ -368,6 +380,11 @@ pub record ReadsTemporaries (a : List Sym) (first ns : List Name) (b : List Sym)
 -- what is behind a block's parameters, if it has any, up to where a statement may begin
 pub record ReadsOpening (ns : List Name) (a : List Sym) (ts : List Name) (b : List Sym) : Type 0 where
   pub goes : (start : ℕ) (fs : List Frame) → Goes (Opened start ns, fs) a (Statements (Block start ns ts) [], fs) b
+
+-- there are parameters
+abbrev pub is_named : List Name → Bool
+is_named [] = false
+is_named (n ∷ ns) = true
 
 -- a block's parameters and temporaries
 pub record ReadsHead (a : List Sym) (ns ts : List Name) (b : List Sym) : Type 0 where
