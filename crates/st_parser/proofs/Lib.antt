@@ -7,3 +7,4 @@ pub mod Rest
 pub mod Words
 pub mod ArraySteps
 pub mod NameSteps
+pub mod Steps
