@@ -8,3 +8,4 @@ pub mod Words
 pub mod ArraySteps
 pub mod NameSteps
 pub mod Steps
+pub mod TreeParts

@@ -5,3 +5,5 @@ mod cursor;
 mod literals;
 
 mod literal_arrays;
+mod built;
+mod names;
