@@ -244,6 +244,14 @@ nothing_behind_read source tokens at c e f g n ns = nothing_behind (left source 
 pub head_read : {a b d : List Sym} {ns ts : List Name} → r.ReadsParameters a [] ns b → r.ReadsOpening ns b ts d → r.ReadsHead a ns ts d
 head_read x y = record { goes = λ begin fs tree h. y.goes begin fs tree (x.goes begin fs tree h); }
 
+pub named_opening : {a b : List Sym} {ts : List Name} (ps : List Name) → r.is_named ps ≡ true → ((n : Name) (ns : List Name) → r.ReadsOpening (n ∷ ns) a ts b) → r.ReadsOpening ps a ts b
+named_opening [] e x = cc
+named_opening (n ∷ ns) e x = x n ns
+
+pub unnamed_opening : {a b : List Sym} {ts : List Name} (ps : List Name) → r.is_named ps ≡ false → r.ReadsOpening [] a ts b → r.ReadsOpening ps a ts b
+unnamed_opening [] e x = x
+unnamed_opening (n ∷ ns) e x = cc
+
 -- ---- patterns
 
 keyword_role : (t : List ℕ) (ns : List Name) (fs : List Frame) (role : Role) (u : List ℕ) (at : ℕ) (d : List Sym) (tree : Tree)
