@@ -245,6 +245,12 @@ pub again_unary : (source : List ℕ) (tokens : List Token) (at : ℕ) → r.is_
     → r.ReadsAgain (rest source tokens at) (message (text_at source tokens at) (start_at tokens at) []) (rest source tokens (next tokens at))
 again_unary source tokens at e f = unary_again (left source tokens at) e f
 
+pub again_binary : {a b : List Sym} {m : Message} → r.ReadsBinary a m b → r.ReadsAgain a m b
+again_binary x = record { goes = λ home fs tg o cs tree e. x.again home fs tg o cs tree e; }
+
+pub again_keywords : {a b : List Sym} {m : Message} → r.ReadsKeywords a m b → r.ReadsAgain a m b
+again_keywords x = record { goes = λ home fs tg o cs tree e. x.again home fs tg o cs tree e; }
+
 pub no_cascade : (a : List Sym) (ms : List Message) → r.ReadsCascade a ms ms a
 no_cascade a ms = record { goes = λ home fs tg o tree e. e; }
 

@@ -7,3 +7,5 @@ mod literals;
 mod literal_arrays;
 mod built;
 mod names;
+mod bodies;
+mod read;
