@@ -1,5 +1,10 @@
 // Bodies and methods: the tree of a text, or its first fault.
 #![tactic(auto)]
 
-pub mod scan;
-pub mod scan_state;
+mod check;
+mod class;
+mod scan;
+mod scan_state;
+mod stop;
+
+pub use stop::ParseStop;
