@@ -1,2 +1,4 @@
-pub mod Scan
 pub mod Finding
+pub mod Machine
+pub mod Scan
+pub mod States
