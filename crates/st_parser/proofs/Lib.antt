@@ -1,2 +1,4 @@
 pub mod Ahead
 pub mod Deep
+mod Examples
+pub mod Shape
