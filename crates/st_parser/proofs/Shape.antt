@@ -11,6 +11,7 @@ use Rattle.st_tree.specs.declared.tree.Statement.{Statement}
 use Rattle.st_tree.specs.declared.tree.Message.{Message}
 use Rattle.st_tree.specs.declared.tree.Operand.{Operand}
 use Rattle.st_tree.specs.Symbols.{Sym, Id, Key, Op, Minus, Bar, TwoBars, ThreeBars, Num, Lit, ArrayOpen, ParenOpen, ParenClose, BlockOpen, BlockClose, Colon, Assign, Caret, Period, Semicolon, Role, IsName, IsValue, IsSuper, role, word_item}
+use Rattle.st_tree.specs.Grammar.{Tree}
 use Rattle.st_tree.specs.Trees.{name, variable, integer, negative, array, constant, message, block, paren, stated}
 use Rattle.st_parser.specs.States.{Selector, Left, First, Further, Outer, Receiver, Argument, Inner, Plain, Right, FurtherRight, Place, Start, Bare, Have, Want, Super, Signed, Again, Sent, Heading, NoPattern, Headed, Level, Top, Block, Home, Paren, Body, Here, Pattern, OperatorRead, KeywordRead, ParameterRead, Opened, Parameter, Fresh, Temporaries, Statements, Ended, Within, Elements, Dash, Run, Frame, Waits, Holds, Whole, Move, Next, OpenArray, OpenParen, OpenBlock}
 use Rattle.st_parser.specs.Machine as m
@@ -130,12 +131,6 @@ below n m e = grind (arith, nat_tests)
 
 within_limit : (n m : ℕ) → nat_lt m n ≡ false → nat_le n m ≡ true
 within_limit n m e = grind (arith, nat_tests)
-
-not_below : (n m : ℕ) → nat_le m n ≡ true → nat_lt n m ≡ false
-not_below n m e = grind (arith, nat_tests)
-
-beyond_limit : (n m : ℕ) → nat_lt m n ≡ true → nat_le n m ≡ false
-beyond_limit n m e = grind (arith, nat_tests)
 
 -- an integer is small enough without a sign
 abbrev Fit : Sym → Type 0
@@ -494,3 +489,68 @@ steps (Within home place) fs x r = withins home place fs x r
 steps (Elements items) fs x r = elements items fs x (fit_of now.Elements x (λ at. refl) r)
 steps (Dash items at) fs x r = dashes items at fs x r
 steps (Run items t end) fs x r = runs items t end fs x (fit_of now.Elements x (λ at. refl) r)
+
+-- ---- the end
+
+abbrev pub is_done : Option Tree → Bool
+is_done None = false
+is_done (Some tree) = true
+
+done_within : (heading : Heading) (ts : List Name) (done : List Statement) (returns : Bool) (w : Option Whole) → is_done (m.accept_within (Body (Top heading ts) done returns) [] w) ≡ is_whole w
+done_within heading ts done returns None = refl
+done_within heading ts done returns (Some w) = refl
+
+done_deep : (home : Home) (f : Frame) (fs : List Frame) (w : Option Whole) → is_done (m.accept_within home (f ∷ fs) w) ≡ false
+done_deep Paren f fs None = refl
+done_deep Paren f fs (Some w) = refl
+done_deep (Body (Top heading ts) done returns) f fs None = refl
+done_deep (Body (Top heading ts) done returns) f fs (Some w) = refl
+done_deep (Body (Block at ns ts) done returns) f fs None = refl
+done_deep (Body (Block at ns ts) done returns) f fs (Some w) = refl
+
+done_paren : (w : Option Whole) → is_done (m.accept_within Paren [] w) ≡ false
+done_paren None = refl
+done_paren (Some w) = refl
+
+done_block : (at : ℕ) (ns ts : List Name) (done : List Statement) (returns : Bool) (w : Option Whole) → is_done (m.accept_within (Body (Block at ns ts) done returns) [] w) ≡ false
+done_block at ns ts done returns None = refl
+done_block at ns ts done returns (Some w) = refl
+
+-- a text can end where a scan says so
+pub accepts : (h : Here) (fs : List Frame) → is_done (m.accept (h, fs)) ≡ ends_at (now_of h) (map held_of fs)
+accepts Pattern [] = refl
+accepts Pattern (f ∷ fs) = refl
+accepts (OperatorRead t) [] = refl
+accepts (OperatorRead t) (f ∷ fs) = refl
+accepts (KeywordRead t ns) [] = refl
+accepts (KeywordRead t ns) (f ∷ fs) = refl
+accepts (ParameterRead t ns) [] = refl
+accepts (ParameterRead t ns) (f ∷ fs) = refl
+accepts (Opened at ns) [] = refl
+accepts (Opened at ns) (f ∷ fs) = refl
+accepts (Parameter at ns) [] = refl
+accepts (Parameter at ns) (f ∷ fs) = refl
+accepts (Fresh (Top heading ts)) [] = refl
+accepts (Fresh (Top heading ts)) (f ∷ fs) = refl
+accepts (Fresh (Block at ns ts)) [] = refl
+accepts (Fresh (Block at ns ts)) (f ∷ fs) = refl
+accepts (Temporaries level) [] = refl
+accepts (Temporaries level) (f ∷ fs) = refl
+accepts (Statements (Top heading ts) done) [] = refl
+accepts (Statements (Top heading ts) done) (f ∷ fs) = refl
+accepts (Statements (Block at ns ts) done) [] = refl
+accepts (Statements (Block at ns ts) done) (f ∷ fs) = refl
+accepts (Ended (Top heading ts) done) [] = refl
+accepts (Ended (Top heading ts) done) (f ∷ fs) = refl
+accepts (Ended (Block at ns ts) done) [] = refl
+accepts (Ended (Block at ns ts) done) (f ∷ fs) = refl
+accepts (Within (Body (Top heading ts) done returns) place) [] = done_within heading ts done returns (m.whole place) ∙ whole_same place
+accepts (Within (Body (Block at ns ts) done returns) place) [] = done_block at ns ts done returns (m.whole place)
+accepts (Within Paren place) [] = done_paren (m.whole place)
+accepts (Within home place) (f ∷ fs) = done_deep home f fs (m.whole place)
+accepts (Elements items) [] = refl
+accepts (Elements items) (f ∷ fs) = refl
+accepts (Dash items at) [] = refl
+accepts (Dash items at) (f ∷ fs) = refl
+accepts (Run items t end) [] = refl
+accepts (Run items t end) (f ∷ fs) = refl

@@ -15,6 +15,8 @@ use Rattle.st_parser.specs.declared.scan_state.Now.{Now}
 use Rattle.st_parser.specs.declared.scan_state.Now.TheVariants as now
 use Rattle.st_parser.specs.declared.scan_state.Spot.TheVariants as spot
 use Rattle.st_parser.specs.declared.scan_state.Held.{Held}
+use Rattle.st_parser.specs.declared.scan_state.Owner.TheVariants as owner
+use Rattle.st_tree.specs.Grammar.{Production, AMethod, ABody}
 use Rattle.st_parser.specs.Scan.{apply_turn, turn_at, ends_at}
 
 -- what an identifier is
@@ -124,3 +126,8 @@ abbrev pub Passes : Bool → Token → Option (Now × List Held) → Result Now 
 Passes large t next (Ok n) hs = (next ≡ Some (n, hs)) × (fault_here large (length hs) ≡ None)
 Passes large t next (Err (Fault byte reason)) hs = (later : Now → List Held → Found) → fault_at large t next later ≡ Some (byte, reason)
 Passes large t next (Err OutOfMemory) hs = Unit {0}
+
+-- what a scan begins with
+abbrev pub starts : Production → Now
+starts AMethod = now.Pattern
+starts ABody = now.Fresh owner.Text
