@@ -3,3 +3,4 @@ pub mod Follow
 pub mod Arrays
 pub mod Complete
 pub mod Sound
+pub mod SoundLevels
