@@ -4,3 +4,4 @@ pub mod Arrays
 pub mod Complete
 pub mod Sound
 pub mod SoundLevels
+pub mod Viable
