@@ -23,7 +23,8 @@ use Rattle.st_parser.proofs.Larges.{large_stuck}
 use Rattle.st_parser.proofs.Classes.{class_same, in_range, large_number, aside_class, aside_range, ways, aside_deeper}
 use Rattle.st_parser.proofs.Deep.{along, way}
 use Rattle.st_parser.proofs.Deep as d
-use Rattle.st_parser.proofs.Theory.{complete, can_stand, cannot_stand}
+use Rattle.st_parser.proofs.Complete.{complete}
+use Rattle.st_parser.proofs.Viable.{parse_append, can_stand, cannot_stand}
 
 -- ---- runs over one symbol more
 
@@ -33,15 +34,6 @@ run_append (s ∷ a) b state = after (step state s) (λ next. run_append a b nex
   where
     after : (m : Option State) → ((next : State) → run next (a ++ b) ≡ option_and_then (λ y. run y b) (run next a))
         → option_and_then (λ next. run next (a ++ b)) m ≡ option_and_then (λ y. run y b) (option_and_then (λ y. run y a) m)
-    after None k = refl
-    after (Some next) k = k next
-
-parse_append : (a b : List Sym) (state : State) → parse state (a ++ b) ≡ option_and_then (λ next. parse next b) (run state a)
-parse_append [] b state = refl
-parse_append (s ∷ a) b state = after (step state s) (λ next. parse_append a b next)
-  where
-    after : (m : Option State) → ((next : State) → parse next (a ++ b) ≡ option_and_then (λ y. parse y b) (run next a))
-        → option_and_then (λ next. parse next (a ++ b)) m ≡ option_and_then (λ y. parse y b) (option_and_then (λ y. run y a) m)
     after None k = refl
     after (Some next) k = k next
 
@@ -216,7 +208,7 @@ none_some tree e = cc
 
 more_needed : (p : Production) (text : List ℕ) {before : List Token} {n : Now} {hs : List Held} (k : Kept p text before n hs) → ends_at n hs ≡ false → IsFault p text before None (length text) reason.Syntax
 more_needed p text {before = before} k e = unfinished (stands p text k)
-    (λ tree t. none_some tree (sym (not_done (accept k.state) (ended p text None k ∙ e)) ∙ sym (parse_run (syms text before) (start p) k.state k.runs) ∙ complete p (syms text before) tree t))
+    (λ tree t. none_some tree (sym (not_done (accept k.state) (ended p text None k ∙ e)) ∙ sym (parse_run (syms text before) (start p) k.state k.runs) ∙ complete t))
 
 -- at the end of the tokens
 end_fault : (p : Production) (text : List ℕ) (spoiled : Option LexFault) {before : List Token} {n : Now} {hs : List Held} (k : Kept p text before n hs) (b : Bool) → ends_at n hs ≡ b

@@ -1,8 +1,13 @@
 pub mod Ahead
+pub mod Arrays
 pub mod Classes
+pub mod Complete
 pub mod Deep
 mod Examples
+pub mod Follow
 pub mod Found
 pub mod Larges
 pub mod Shape
-pub mod Theory
+pub mod Sound
+pub mod SoundLevels
+pub mod Viable
