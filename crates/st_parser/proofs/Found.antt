@@ -12,18 +12,24 @@ use Rattle.st_base.specs.declared.faults.Reason.{Reason}
 use Rattle.st_base.specs.declared.faults.Reason.TheVariants as reason
 use Rattle.st_tree.specs.Symbols.{Sym, Num, Id, Key, Op, Lit, ArrayOpen, ParenOpen, ParenClose, BlockOpen, BlockClose, sym_of, syms}
 use Rattle.st_tree.specs.Grammar.{Production, AMethod, ABody, Tree, Derives}
-use Rattle.st_tree.specs.Faults.{CanStand, CannotStand, Shallow, Stands, Spoils, out_of_place, out_of_range, too_deep, IsFault, at_token, lexical_fault, unfinished, aside, deeper, depth}
+use Rattle.st_tree.specs.Faults.{CanStand, CannotStand, Shallow, Stands, Spoils, out_of_place, out_of_range, too_deep, IsFault, at_token, lexical_fault, unfinished, IsTree, aside, deeper, depth}
 use Rattle.st_parser.specs.Machine.{State, parse, run, start, step, step_at, accept}
 use Rattle.st_parser.specs.declared.scan_state.Now.{Now}
 use Rattle.st_parser.specs.declared.scan_state.Held.{Held}
 use Rattle.st_parser.specs.Scan.{turn_at, apply_turn, ends_at}
-use Rattle.st_parser.specs.Finding.{fault_from, fault_at, fault_or, fault_here, fault_end, Found, is_out_of_range, is_too_large, has_sign, class_at, starts}
+use Rattle.st_parser.specs.Finding.{fault_from, fault_at, fault_or, fault_here, fault_end, Found, Stops, is_out_of_range, is_too_large, has_sign, class_at, starts}
 use Rattle.st_parser.proofs.Shape.{shape, shapes, now_of, held_of, steps, accepts, is_done, InRange, class_of}
 use Rattle.st_parser.proofs.Larges.{large_stuck}
 use Rattle.st_parser.proofs.Classes.{class_same, in_range, large_number, aside_class, aside_range, ways, aside_deeper}
 use Rattle.st_parser.proofs.Deep.{along, way}
 use Rattle.st_parser.proofs.Deep as d
+use Rattle.st_base.specs.Lexed.{lexed_of}
+use Rattle.st_parser.specs.declared.stop.ParseStop.{ParseStop}
+use Rattle.st_parser.specs.declared.stop.ParseStop.TheVariants.{Fault, OutOfMemory}
+use Rattle.st_parser.specs.Parsed.{Parses, StopsAt}
+use Rattle.st_parser.specs.Made.{Makes}
 use Rattle.st_parser.proofs.Complete.{complete}
+use Rattle.st_parser.proofs.SoundLevels.{sound}
 use Rattle.st_parser.proofs.Viable.{parse_append, can_stand, cannot_stand}
 
 -- ---- runs over one symbol more
@@ -301,3 +307,22 @@ first_fault p text tokens spoiled byte why e = found p text spoiled tokens [] (s
 -- where it finds none, the machine accepts
 pub no_fault : (p : Production) (text : List ℕ) (tokens : List Token) (spoiled : Option LexFault) → fault_from text spoiled (starts p) [] tokens ≡ None → Clean p text tokens spoiled
 no_fault p text tokens spoiled e = clean p text spoiled tokens [] (starts p) [] (kept_start p text) e
+
+-- where the machine accepts, what the second pass makes is the text's tree
+pub is_tree : {p : Production} {text : List ℕ} {tokens : List Token} {spoiled : Option LexFault} {made : Tree} → Clean p text tokens spoiled → Makes p (syms text tokens) made → IsTree p text tokens spoiled made
+is_tree {p = p} {text = text} {tokens = tokens} {made = made} c m = record {
+  whole = c.whole;
+  derives = sound p (syms text tokens) made (c.accepted ∙ ap Some (m.gives c.tree c.accepted));
+  shallow = c.shallow;
+}
+
+-- ---- of a text, by its own tokens
+
+pub refuses : (p : Production) (text : List ℕ) (tokens : List Token) (spoiled : Option LexFault) (stop : ParseStop) → Stops (fault_from text spoiled (starts p) [] tokens) stop
+    → tokens ≡ (lexed_of text).tokens → spoiled ≡ (lexed_of text).fault → StopsAt p text stop
+refuses p text tokens spoiled (Fault byte why) e t s = subst (λ x. IsFault p text x (lexed_of text).fault byte why) t (subst (λ y. IsFault p text tokens y byte why) s (first_fault p text tokens spoiled byte why e))
+refuses p text tokens spoiled OutOfMemory e t s = tt
+
+pub parses : (p : Production) (text : List ℕ) (tokens : List Token) (spoiled : Option LexFault) (made : Tree) → fault_from text spoiled (starts p) [] tokens ≡ None → Makes p (syms text tokens) made
+    → tokens ≡ (lexed_of text).tokens → spoiled ≡ (lexed_of text).fault → Parses p text made
+parses p text tokens spoiled made e m t s = subst (λ x. IsTree p text x (lexed_of text).fault made) t (subst (λ y. IsTree p text tokens y made) s (is_tree (no_fault p text tokens spoiled e) m))

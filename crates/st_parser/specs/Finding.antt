@@ -117,10 +117,6 @@ abbrev pub Stops : Found → ParseStop → Type 0
 Stops f (Fault byte reason) = f ≡ Some (byte, reason)
 Stops f OutOfMemory = Unit {0}
 
--- a token's bytes are there
-abbrev pub Fits : List ℕ → Token → Type 0
-Fits text t = (t.start ≤ t.end) × (t.end ≤ length text)
-
 -- what is read behind a token that is at no fault, or its fault
 abbrev pub Passes : Bool → Token → Option (Now × List Held) → Result Now ParseStop → List Held → Type 0
 Passes large t next (Ok n) hs = (next ≡ Some (n, hs)) × (fault_here large (length hs) ≡ None)

@@ -1,4 +1,6 @@
 pub mod Finding
 pub mod Machine
+pub mod Made
+pub mod Parsed
 pub mod Scan
 pub mod States

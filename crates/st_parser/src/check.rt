@@ -1,10 +1,10 @@
 // The first fault of a text, found by a scan over its tokens.
 
-ghost use Rattle.std.specs.Prelude.{◌≡◌, ◌≤◌, [], ◌∷◌, length, All, IfOk, IfErr, OnOk, MatchOption, reverse, None, Some};
+ghost use Rattle.std.specs.Prelude.{◌≡◌, ◌≤◌, [], ◌∷◌, length, IfOk, IfErr, OnOk, MatchOption, reverse, None, Some};
 ghost use Rattle.st_parser.specs.Scan.{apply_turn, turn_at, Applies, ends_at};
 ghost use Rattle.st_parser.specs.Finding as finding;
 ghost use Rattle.st_parser.specs.declared.scan_state.Turn.TheVariants as turn;
-ghost use Rattle.st_parser.specs.Finding.{Fits, Passes, Stops, fault_from};
+ghost use Rattle.st_parser.specs.Finding.{Passes, Stops, fault_from};
 
 use crate::class::class_at;
 use crate::scan::{can_end, turn};
@@ -76,8 +76,8 @@ fn has_sign(now: Now, begin: u32) -> bool
     ensures { result ≡ finding.has_sign now begin }
 {
     match now {
-        Now::Within(_, Spot::Signed(_, at)) => begin == at,
-        Now::Dash(at) => begin == at,
+        Now::Within(_, Spot::Signed(_, at)) => begin as u64 == at,
+        Now::Dash(at) => begin as u64 == at,
         _ => false,
     }
 }
@@ -149,8 +149,7 @@ pub fn check(
     spoiled: Option<LexFault>,
     start: Now,
 ) -> Result<(), ParseStop>
-    requires small { length text.now ≤ 1048576 }
-    requires spans { All (Fits text.now) tokens.now }
+    requires { length text.now ≤ 1048576 }
     ensures clean { OnOk result (fault_from text.now spoiled start [] tokens.now ≡ None) }
     ensures fault { IfErr result (λ e. Stops (fault_from text.now spoiled start [] tokens.now) e) }
 {

@@ -1,9 +1,8 @@
 // What a token is to the grammar.
 
-ghost use Rattle.std.specs.Prelude.{◌≡◌, ◌<◌, ◌≤◌, ◌^◌, length};
+ghost use Rattle.std.specs.Prelude.{◌≡◌};
 ghost use Rattle.std.specs.Str.{bytes_eq};
 ghost use Rattle.st_parser.specs.Finding as finding;
-ghost use Rattle.st_parser.specs.Finding.{Fits};
 
 use crate::scan_state::Class;
 use st_base::{Token, TokenKind};
@@ -35,11 +34,10 @@ fn word_class(text: &[u8]) -> Class
 
 #[tactic(auto, unfolding(crate::specs::Finding::operator_class))]
 fn operator_class(text: &[u8], at: u32) -> Class
-    requires { at < 2 ^ 31 }
     ensures { result ≡ finding.operator_class text.now at }
 {
     if is_text(text, b"-") {
-        Class::Minus(at + 1)
+        Class::Minus(at as u64 + 1)
     } else if is_text(text, b"|") {
         Class::Bar
     } else if is_text(text, b"||") {
@@ -52,7 +50,6 @@ fn operator_class(text: &[u8], at: u32) -> Class
 }
 
 fn class_by(kind: TokenKind, text: &[u8], at: u32) -> Class
-    requires { at < 2 ^ 31 }
     ensures { result ≡ finding.class_by kind text.now at }
 {
     match kind {
@@ -77,12 +74,22 @@ fn class_by(kind: TokenKind, text: &[u8], at: u32) -> Class
     }
 }
 
+// The bytes of a token.
+fn bytes_of(text: &[u8], token: Token) -> &[u8]
+    ensures { result.now ≡ finding.bytes_of text.now token }
+{
+    let start = (token.start as usize).min(text.len());
+    let end = (token.end as usize).min(text.len());
+    if start <= end {
+        &text[start..end]
+    } else {
+        &text[start..start]
+    }
+}
+
 /// What a token of the text is to the grammar.
 pub fn class_at(text: &[u8], token: Token) -> Class
-    requires small { length text.now ≤ 1048576 }
-    requires span { Fits text.now token }
     ensures { result ≡ finding.class_at text.now token }
 {
-    let bytes = &text[token.start as usize..token.end as usize];
-    class_by(token.kind, bytes, token.start)
+    class_by(token.kind, bytes_of(text, token), token.start)
 }

@@ -1,10 +1,15 @@
-// Bodies and methods: the tree of a text, or its first fault.
+// Methods and bodies: a text and its tokens go in, the tree comes out, or the text's first fault
+// with its reason (ANSI NCITS 319, 3.4). A first pass over the tokens finds the fault and makes no
+// trees; a second makes the tree of tokens that are known to have one.
 #![tactic(auto)]
 
 mod check;
 mod class;
+mod parse;
 mod scan;
 mod scan_state;
 mod stop;
+mod trees;
 
+pub use parse::{body, method};
 pub use stop::ParseStop;

@@ -130,12 +130,12 @@ fn super_goes(around: Around, slot: Slot, class: Class) -> Turn
 }
 
 /// An integer comes directly behind `-`.
-fn signed(around: Around, slot: Slot, at: u32, class: Class) -> Turn
+fn signed(around: Around, slot: Slot, at: u64, class: Class) -> Turn
     ensures { result ≡ scan.signed around slot at class }
 {
     match class {
         Class::Number(begin) => {
-            if begin == at {
+            if begin as u64 == at {
                 have(around, slot, true)
             } else {
                 Turn::Stuck

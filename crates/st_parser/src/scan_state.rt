@@ -12,7 +12,7 @@ pub enum Class {
     /// An operator of no further meaning.
     Operator,
     /// `-`, and the byte behind it.
-    Minus(u32),
+    Minus(u64),
     Bar,
     TwoBars,
     ThreeBars,
@@ -69,7 +69,7 @@ pub enum Spot {
     /// Behind `super`.
     Super(Slot),
     /// Behind `-`, and the byte where an integer has to begin.
-    Signed(Slot, u32),
+    Signed(Slot, u64),
     /// Behind `;`.
     Again,
     /// Behind a unary message that stands behind `;`.
@@ -111,7 +111,7 @@ pub enum Now {
     /// The items of an array.
     Elements,
     /// Behind `-` in an array, and the byte where an integer would be signed by it.
-    Dash(u32),
+    Dash(u64),
 }
 
 /// What waits for a level to end.
