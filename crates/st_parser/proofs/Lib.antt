@@ -5,3 +5,4 @@ pub mod Complete
 pub mod Sound
 pub mod SoundLevels
 pub mod Viable
+pub mod Runs
