@@ -6,3 +6,4 @@ pub mod Sound
 pub mod SoundLevels
 pub mod Viable
 pub mod Runs
+pub mod Verdicts
