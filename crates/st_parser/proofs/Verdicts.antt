@@ -1,5 +1,5 @@
 -- The machine's verdict on a text is its tree or its first fault, and the other way round.
-use Rattle.std.proofs.Common.{◌≡◌, ℕ, suc, zero, ◌+◌, ◌<◌, ◌≤◌, List, [], ◌∷◌, ◌++◌, Bool, true, false, refl, ap, sym, ◌∙◌, subst, Option, Some, None, take, drop, map, length, arith, append-nil, append_assoc, ◌⊎◌, inl, inr}
+use Rattle.std.proofs.Common.{◌≡◌, ℕ, suc, zero, ◌+◌, ◌<◌, ◌≤◌, List, [], ◌∷◌, ◌++◌, Bool, true, false, refl, ap, sym, ◌∙◌, subst, Option, Some, None, take, drop, map, length, arith, append-nil, append_assoc, ◌⊎◌, ◌↔◌, inl, inr}
 use Rattle.std.specs.Prelude.{option_and_then, nat_lt, slice_get}
 use Rattle.std.proofs.lemmas.Bool.{ltb-true, ltb-false, lt-ltb, le-ltb}
 use Rattle.std.proofs.lemmas.List.{map-append, length-append, length-map, take-append-drop, take-map, take_all}
@@ -14,6 +14,7 @@ use Rattle.st_tree.specs.Faults.{CanStand, CannotStand, deeper, depth, Shallow, 
 use Rattle.st_parser.specs.Machine.{State, step, run, parse, accept, start}
 use Rattle.st_parser.specs.Verdict.{Verdict, Good, Bad, verdict_end, verdict_at, verdict_from, verdict_of}
 use Rattle.st_parser.proofs.Complete.{complete}
+use Rattle.st_parser.proofs.SoundLevels.{sound}
 use Rattle.st_parser.proofs.Viable.{can_stand, cannot_stand}
 use Rattle.st_parser.proofs.Runs.{run_append, run_next, runs, parse_run, depth_append, depth_next, shallow_nil, shallow_whole, stays_shallow, aside_step, stands, is_out_of_place, is_out_of_range, is_too_deep, goes_on, derived, not_derived}
 
@@ -215,3 +216,12 @@ either p text tokens lexical = look (verdict_of p text tokens lexical) (verdict_
     look : (v : Verdict) → Means p text tokens lexical v → ((tree : Tree) × IsTree p text tokens lexical tree) ⊎ ((byte : ℕ) × (why : Reason) × IsFault p text tokens lexical byte why)
     look (Good tree) m = inl (tree, m)
     look (Bad byte why) m = inr (byte, why, m)
+
+pub machine_trees : (p : Production) (a : List Sym) (tree : Tree) → Derives p a tree ↔ (parse (start p) a ≡ Some tree)
+machine_trees p a tree = (complete, sound p a tree)
+
+pub machine_fronts : (p : Production) (a : List Sym) → CanStand p a ↔ ((s : State) × (run (start p) a ≡ Some s))
+machine_fronts p a = (runs p a, λ k. can_stand p a k.0 k.1)
+
+pub ruleset laws = (either, not_both, one_fault)
+pub ruleset machine_laws = (machine_trees, machine_fronts)
