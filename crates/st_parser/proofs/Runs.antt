@@ -1,16 +1,13 @@
 -- Runs of the machine over a list of tokens, one more at a time, and what they say of the list.
-use Rattle.std.proofs.Common.{◌≡◌, ℕ, suc, zero, ◌+◌, ◌-◌, ◌<◌, ◌≤◌, ◌^◌, List, [], ◌∷◌, ◌++◌, Bool, true, false, refl, ap, sym, ◌∙◌, subst, Option, Some, None, take, length, arith, append-nil, if◌then◌else◌}
-use Rattle.std.specs.Prelude.{option_and_then, ◌==◌, nat_lt, nat_le}
+use Rattle.std.proofs.Common.{◌≡◌, ℕ, ◌+◌, ◌<◌, ◌≤◌, List, [], ◌∷◌, ◌++◌, Bool, true, false, refl, ap, sym, ◌∙◌, subst, Option, Some, None, take, length, arith, append-nil, if◌then◌else◌}
+use Rattle.std.specs.Prelude.{option_and_then, ◌==◌, nat_le}
 use Rattle.std.proofs.lemmas.Bool.{leb-true, leb-false}
 use Rattle.std.proofs.lemmas.List.{length-append, take-append-le, take_all}
-use Rattle.st_base.specs.declared.faults.Reason.{Reason}
 use Rattle.st_base.specs.declared.faults.Reason.TheVariants as reason
-use Rattle.st_tree.specs.declared.tree.Name.{Name}
-use Rattle.st_tree.specs.declared.tree.Literal.{Literal}
-use Rattle.st_tree.specs.Symbols.{Sym, Id, Key, Op, Minus, Bar, TwoBars, ThreeBars, Num, Lit, ArrayOpen, ParenOpen, ParenClose, BlockOpen, BlockClose, Colon, Assign, Caret, Period, Semicolon}
+use Rattle.st_tree.specs.Symbols.{Sym, Num, ArrayOpen, ParenOpen, ParenClose, BlockOpen, BlockClose}
 use Rattle.st_tree.specs.Grammar.{Production, Tree, Derives}
-use Rattle.st_tree.specs.Faults.{CanStand, CannotStand, deeper, depth, Shallow, aside, Stands, Spoils, out_of_place, out_of_range, too_deep}
-use Rattle.st_parser.specs.Machine.{State, step, step_at, run, parse, accept, start, Frame, Here, Pattern, OperatorRead, KeywordRead, ParameterRead, Opened, Parameter, Fresh, Temporaries, Statements, Ended, Within, Elements, Dash, Run, Home, Place, Start, Bare, Have, Want, Super, Signed, Again, Sent, Inner, Level, Move, within, moved, move, negated, dash, elements, negated_item}
+use Rattle.st_tree.specs.Faults.{CanStand, deeper, depth, Shallow, aside, Stands, Spoils, out_of_place, out_of_range, too_deep}
+use Rattle.st_parser.specs.Machine.{State, step, step_at, run, parse, accept, start, Frame, Here, Pattern, OperatorRead, KeywordRead, ParameterRead, Opened, Parameter, Fresh, Temporaries, Statements, Ended, Within, Elements, Dash, Run, Home, Place, Start, Bare, Have, Want, Super, Signed, Again, Sent, moved, move, negated, elements, negated_item}
 use Rattle.st_parser.proofs.Arrays.{dash_symbol}
 use Rattle.st_parser.proofs.Complete.{complete}
 use Rattle.st_parser.proofs.SoundLevels.{sound}

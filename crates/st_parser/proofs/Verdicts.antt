@@ -1,9 +1,9 @@
 -- The machine's verdict on a text is its tree or its first fault, and the other way round.
-use Rattle.std.proofs.Common.{◌≡◌, ℕ, suc, zero, ◌+◌, ◌<◌, ◌≤◌, List, [], ◌∷◌, ◌++◌, Bool, true, false, refl, ap, sym, ◌∙◌, subst, Option, Some, None, take, drop, map, length, arith, append-nil, append_assoc, ◌⊎◌, ◌↔◌, inl, inr}
+use Rattle.std.proofs.Common.{◌≡◌, ℕ, suc, zero, ◌≤◌, List, [], ◌∷◌, ◌++◌, Bool, true, false, refl, ap, sym, ◌∙◌, subst, Option, Some, None, take, drop, length, arith, append-nil, append_assoc, ◌⊎◌, ◌↔◌, inl, inr}
 use Rattle.std.specs.Prelude.{option_and_then, nat_lt, slice_get}
 use Rattle.std.proofs.lemmas.Bool.{ltb-true, ltb-false, lt-ltb, le-ltb}
-use Rattle.std.proofs.lemmas.List.{map-append, length-append, length-map, take-append-drop, take-map, take_all}
-use Rattle.std.proofs.Math.Seq.{take-append_seam, take-append-add}
+use Rattle.std.proofs.lemmas.List.{map-append, take-map}
+use Rattle.std.proofs.Math.Seq.{take-append_seam}
 use Rattle.st_base.specs.declared.tokens.Token.{Token}
 use Rattle.st_base.specs.declared.tokens.LexFault.{LexFault}
 use Rattle.st_base.specs.declared.faults.Reason.{Reason}
@@ -15,8 +15,8 @@ use Rattle.st_parser.specs.Machine.{State, step, run, parse, accept, start}
 use Rattle.st_parser.specs.Verdict.{Verdict, Good, Bad, verdict_end, verdict_at, verdict_from, verdict_of}
 use Rattle.st_parser.proofs.Complete.{complete}
 use Rattle.st_parser.proofs.SoundLevels.{sound}
-use Rattle.st_parser.proofs.Viable.{can_stand, cannot_stand}
-use Rattle.st_parser.proofs.Runs.{run_append, run_next, runs, parse_run, depth_append, depth_next, shallow_nil, shallow_whole, stays_shallow, aside_step, stands, is_out_of_place, is_out_of_range, is_too_deep, goes_on, derived, not_derived}
+use Rattle.st_parser.proofs.Viable.{can_stand}
+use Rattle.st_parser.proofs.Runs.{run_next, runs, parse_run, depth_next, shallow_nil, stays_shallow, aside_step, stands, is_out_of_place, is_out_of_range, is_too_deep, goes_on, derived, not_derived}
 
 -- what a verdict says of a text
 abbrev pub Means : Production → List ℕ → List Token → Option LexFault → Verdict → Type 0
@@ -72,6 +72,7 @@ module _ (p : Production) (text : List ℕ) (lexical : Option LexFault) where
     where
       deep : depth 0 (syms text (before ++ t ∷ [])) ≡ deeper (depth 0 (syms text before)) (sym_of text t)
       deep = ap (depth 0) (syms_next text before t) ∙ depth_next (syms text before) (sym_of text t) 0
+
       further : (next : State) → Means p text ((before ++ t ∷ []) ++ rest) lexical (verdict_from text lexical next (depth 0 (syms text (before ++ t ∷ []))) rest)
           → Means p text (before ++ t ∷ rest) lexical (verdict_from text lexical next (deeper (depth 0 (syms text before)) (sym_of text t)) rest)
       further next m = subst (λ ts. Means p text ts lexical (verdict_from text lexical next (deeper (depth 0 (syms text before)) (sym_of text t)) rest)) (append_assoc before (t ∷ []) rest)
@@ -134,7 +135,7 @@ module _ (text : List ℕ) (lexical : Option LexFault) where
     where
       look : (m : Option State) → step state (sym_of text t) ≡ m → option_and_then (λ next. run next (syms text before)) m ≡ Some s
           → ((next : State) → run next (syms text before) ≡ Some s
-              → verdict_from text lexical next (deeper d (sym_of text t)) (before ++ rest) ≡ verdict_from text lexical s (depth (deeper d (sym_of text t)) (syms text before)) rest)
+          → verdict_from text lexical next (deeper d (sym_of text t)) (before ++ rest) ≡ verdict_from text lexical s (depth (deeper d (sym_of text t)) (syms text before)) rest)
           → verdict_from text lexical state d (t ∷ before ++ rest) ≡ verdict_from text lexical s (depth d (syms text (t ∷ before))) rest
       look None k e go = none_run e
         where
@@ -224,4 +225,5 @@ pub machine_fronts : (p : Production) (a : List Sym) → CanStand p a ↔ ((s : 
 machine_fronts p a = (runs p a, λ k. can_stand p a k.0 k.1)
 
 pub ruleset laws = (either, not_both, one_fault)
+
 pub ruleset machine_laws = (machine_trees, machine_fronts)

@@ -1,10 +1,10 @@
 -- What the machine says of a text: its tree, or its first fault. Computed, beside the relations IsTree and IsFault.
-use Rattle.std.specs.Prelude.{◌≡◌, ℕ, Bool, true, false, nat_lt, List, [], ◌∷◌, length, Option, Some, None}
+use Rattle.std.specs.Prelude.{ℕ, Bool, true, false, nat_lt, List, [], ◌∷◌, length, Option, Some, None}
 use Rattle.st_base.specs.declared.tokens.Token.{Token}
 use Rattle.st_base.specs.declared.tokens.LexFault.{LexFault}
 use Rattle.st_base.specs.declared.faults.Reason.{Reason}
 use Rattle.st_base.specs.declared.faults.Reason.TheVariants as reason
-use Rattle.st_tree.specs.Symbols.{Sym, sym_of}
+use Rattle.st_tree.specs.Symbols.{sym_of}
 use Rattle.st_tree.specs.Grammar.{Production, Tree}
 use Rattle.st_tree.specs.Faults.{aside, deeper}
 use Rattle.st_parser.specs.Machine.{State, step, accept, start}
