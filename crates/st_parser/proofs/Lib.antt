@@ -5,5 +5,6 @@ pub mod Complete
 pub mod Sound
 pub mod SoundLevels
 pub mod Viable
+pub mod Depth
 pub mod Runs
 pub mod Verdicts
