@@ -11,3 +11,6 @@ pub mod Shape
 pub mod Sound
 pub mod SoundLevels
 pub mod Viable
+pub mod Depth
+pub mod Runs
+pub mod Verdicts

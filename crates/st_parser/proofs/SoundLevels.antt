@@ -1,23 +1,22 @@
 -- The same for whole states, and the law: what the machine reads from the start, the grammar derives.
-use Rattle.std.proofs.Common.{◌≡◌, ℕ, List, [], ◌∷◌, ◌++◌, Bool, true, false, refl, ap, ap₂, sym, ◌∙◌, subst, append-nil, append_assoc, Option, Some, None, if◌then◌else◌, ◌⊎◌, inl, inr, ◌+◌, ◌<◌, ◌≤◌, ◌^◌, length}
+use Rattle.std.proofs.Common.{◌≡◌, ℕ, List, [], ◌∷◌, ◌++◌, Bool, true, false, refl, sym, subst, append-nil, append_assoc, Option, Some, None, if◌then◌else◌, ◌⊎◌, inl, inr, ◌+◌, ◌≤◌, ◌^◌, length}
 use Rattle.std.specs.Prelude.{option_and_then, ◌==◌, nat_lt, nat_le}
 use Rattle.std.proofs.lemmas.Bool.{eqb-true, eqb-false, ltb-true, leb-true}
 use Rattle.st_tree.specs.declared.tree.Name.{Name}
 use Rattle.st_tree.specs.declared.tree.Literal.{Literal}
 use Rattle.st_tree.specs.declared.tree.Literal.TheVariants as literal
 use Rattle.st_tree.specs.declared.tree.Primary.{Primary}
-use Rattle.st_tree.specs.declared.tree.Primary.TheVariants as primary
 use Rattle.st_tree.specs.declared.tree.Statement.{Statement}
 use Rattle.st_tree.specs.declared.tree.Message.{Message}
 use Rattle.st_tree.specs.declared.tree.Operand.{Operand}
-use Rattle.st_tree.specs.Symbols.{Sym, Id, Key, Op, Minus, Bar, TwoBars, ThreeBars, Num, Lit, ArrayOpen, ParenOpen, ParenClose, BlockOpen, BlockClose, Colon, Assign, Caret, Period, Semicolon, Role, IsName, IsValue, IsSuper, role, word_item, IsOp, op, minus, bar, two_bars, three_bars}
-use Rattle.st_tree.specs.Trees.{name, variable, integer, negative, array, constant, message, operand, expr, body, block, paren, stated}
+use Rattle.st_tree.specs.Symbols.{Sym, Id, Key, Op, Minus, Bar, TwoBars, ThreeBars, Num, Lit, ArrayOpen, ParenOpen, ParenClose, BlockOpen, BlockClose, Colon, Caret, Period, Role, IsName, IsValue, IsSuper, role, word_item, IsOp, op, minus, bar, two_bars, three_bars}
+use Rattle.st_tree.specs.Trees.{name, integer, negative, array, constant, expr, block, paren, stated}
 use Rattle.st_tree.specs.Grammar as g
 use Rattle.st_tree.specs.Grammar.{Production, AMethod, ABody, Tree, MethodTree, BodyTree}
-use Rattle.st_parser.specs.Machine.{Selector, Left, Outer, Receiver, Argument, Inner, Plain, Place, Start, Bare, Have, Want, Super, Signed, Again, Sent, Heading, NoPattern, Headed, Level, Top, Block, Home, Paren, Body, Here, Pattern, OperatorRead, KeywordRead, ParameterRead, Opened, Parameter, Fresh, Temporaries, Statements, Ended, Within, Elements, Dash, Run, Frame, Waits, Holds, Whole, State, Move, Next, OpenArray, OpenParen, OpenBlock, parse, accept, accept_within, start, tree_of, whole, move, moved, begin, fresh, temporaries, temporary_word, with_temporary, after_parameters, step_at, within, statements, ended, opened, parameter, parameter_word, up, close_paren, close_block, close_level, close_array, period, expr_of, pattern, operator_word, operator_read, keyword_word, keyword_read, parameter_read, elements, with_item, negated_item, dash, keyword_run}
+use Rattle.st_parser.specs.Machine.{Inner, Place, Start, Have, Heading, NoPattern, Headed, Level, Top, Block, Home, Paren, Body, Here, Pattern, OperatorRead, KeywordRead, ParameterRead, Opened, Parameter, Fresh, Temporaries, Statements, Ended, Within, Elements, Dash, Run, Frame, Waits, Holds, Whole, State, Move, Next, OpenArray, OpenParen, OpenBlock, parse, accept, accept_within, start, tree_of, whole, move, moved, begin, fresh, temporaries, temporary_word, with_temporary, step_at, within, statements, ended, opened, parameter, parameter_word, up, close_paren, close_block, close_level, close_array, period, expr_of, pattern, operator_word, operator_read, keyword_word, keyword_read, parameter_read, elements, with_item, negated_item, dash, keyword_run}
 use Rattle.st_parser.proofs.Arrays.{dash_symbol}
 use Rattle.st_parser.proofs.Follow.{with_temporaries, with_none, with_more}
-use Rattle.st_parser.proofs.Sound.{Goes, HaveGoes, ExprGoes, BackMove, EndsAt, move_back, whole_back}
+use Rattle.st_parser.proofs.Sound.{Goes, HaveGoes, BackMove, EndsAt, move_back, whole_back}
 
 -- how a block's parameters go on, to the end of the block
 data Opens : ℕ → List Name → List Sym → List Sym → Primary → Type 0 where
@@ -51,6 +50,7 @@ mutual
     number_goes : {items : List Literal} {fs : List Frame} {end n at : ℕ} {a : List Sym} {r : Tree} → at ≡ end → n ≤ 2 ^ 127 → Completes (Elements (items ++ negative n ∷ [])) fs a r → Completes (Dash items end) fs (Num n at ∷ a) r
     symbol_goes : {items : List Literal} {fs : List Frame} {end : ℕ} {a : List Sym} {r : Tree} → g.NotNumberAt end a → Completes (Elements (items ++ dash_symbol ∷ [])) fs a r → Completes (Dash items end) fs a r
     run_goes : {items : List Literal} {fs : List Frame} {end : ℕ} {t more : List ℕ} {a b : List Sym} {r : Tree} → g.Keys end a b more → Completes (Elements (items ++ literal.Symbol (t ++ more) ∷ [])) fs b r → Completes (Run items t end) fs a r
+
   -- what follows an expression
   data After : Home → List Frame → List Sym → List Name → Operand → List Message → Tree → Type 0 where
     after_paren : {home : Home} {targets : List Name} {inner : Inner} {fs : List Frame} {b : List Sym} {tg : List Name} {o : Operand} {cs : List Message} {r : Tree}

@@ -8,14 +8,11 @@ use Rattle.st_tree.specs.declared.tree.Literal.TheVariants as literal
 use Rattle.st_tree.specs.declared.tree.Primary.{Primary}
 use Rattle.st_tree.specs.declared.tree.Primary.TheVariants as primary
 use Rattle.st_tree.specs.declared.tree.Statement.{Statement}
-use Rattle.st_tree.specs.declared.tree.Message.{Message}
-use Rattle.st_tree.specs.declared.tree.Operand.{Operand}
-use Rattle.st_tree.specs.Symbols.{Sym, Id, Key, Op, Minus, Bar, TwoBars, ThreeBars, Num, Lit, ArrayOpen, ParenOpen, ParenClose, BlockOpen, BlockClose, Colon, Assign, Caret, Period, Semicolon, Role, IsName, IsValue, IsSuper, role, word_item, IsOp, op, minus, bar, two_bars, three_bars}
-use Rattle.st_tree.specs.Trees.{name, variable, integer, negative, array, constant, message, operand, expr, body, block, paren, stated}
-use Rattle.st_tree.specs.Grammar as g
-use Rattle.st_tree.specs.Grammar.{Production, AMethod, ABody, Tree, MethodTree, BodyTree}
+use Rattle.st_tree.specs.Symbols.{Sym, Id, Key, Op, Minus, Bar, TwoBars, ThreeBars, Num, Lit, ArrayOpen, ParenOpen, ParenClose, BlockClose, Colon, Caret, Period, Role, IsName, IsValue, IsSuper, role}
+use Rattle.st_tree.specs.Trees.{name, variable, integer, negative, array, constant, message, block, paren, stated}
+use Rattle.st_tree.specs.Grammar.{Production, AMethod, ABody, Tree}
 use Rattle.st_tree.specs.Faults.{CanStand, CannotStand}
-use Rattle.st_parser.specs.Machine.{Selector, Left, First, Further, Outer, Receiver, Argument, Inner, Plain, Right, FurtherRight, Place, Start, Bare, Have, Want, Super, Signed, Again, Sent, Heading, NoPattern, Headed, Level, Top, Block, Home, Paren, Body, Here, Pattern, OperatorRead, KeywordRead, ParameterRead, Opened, Parameter, Fresh, Temporaries, Statements, Ended, Within, Elements, Dash, Run, Frame, Waits, Holds, Whole, State, Move, Next, OpenArray, OpenParen, OpenBlock, finish, parse, run, step, accept, accept_within, start, tree_of, whole, move, moved, begin, negated, fresh, temporaries, temporary_word, with_temporary, step_at, within, statements, ended, opened, parameter, parameter_word, up, close_paren, close_block, close_level, close_array, period, expr_of, pattern, operator_word, operator_read, keyword_word, keyword_read, parameter_read, elements, with_item, negated_item, dash, keyword_run}
+use Rattle.st_parser.specs.Machine.{Receiver, Inner, Plain, Place, Start, Bare, Have, Want, Super, Signed, Again, Sent, Headed, Level, Top, Block, Home, Paren, Body, Here, Pattern, OperatorRead, KeywordRead, ParameterRead, Opened, Parameter, Fresh, Temporaries, Statements, Ended, Within, Elements, Dash, Run, Frame, Waits, Holds, Whole, State, Move, Next, OpenArray, OpenParen, OpenBlock, finish, parse, run, step, accept_within, start, tree_of, whole, move, moved, begin, negated, fresh, temporaries, temporary_word, step_at, within, statements, ended, opened, parameter, parameter_word, up, close_paren, close_block, close_array, period, expr_of, pattern, operator_word, operator_read, keyword_word, keyword_read, parameter_read, elements, with_item, negated_item, dash, keyword_run}
 use Rattle.st_parser.proofs.Arrays.{dash_symbol}
 use Rattle.st_parser.proofs.Follow.{role_first, role_wanted}
 use Rattle.st_parser.proofs.Complete.{complete}

@@ -4,3 +4,4 @@ pub mod Made
 pub mod Parsed
 pub mod Scan
 pub mod States
+pub mod Verdict

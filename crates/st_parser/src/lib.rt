@@ -5,6 +5,7 @@
 
 mod check;
 mod class;
+pub mod law;
 mod parse;
 mod scan;
 mod scan_state;
