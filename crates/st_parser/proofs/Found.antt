@@ -69,9 +69,9 @@ one_deeper b _ = omega arith
 
 shallow_next : (a : List Sym) (x : Sym) → Shallow a → depth 0 (a ++ x ∷ []) ≤ 200 → Shallow (a ++ x ∷ [])
 shallow_next a x s h n le = elim (cases_lt (length a) n) [
-    inl more ↦ subst (λ v. depth 0 v ≤ 200) (sym (take_all n (a ++ x ∷ []) (omega (arith, length-append a (x ∷ []))))) h
+  | inl more ↦ subst (λ v. depth 0 v ≤ 200) (sym (take_all n (a ++ x ∷ []) (omega (arith, length-append a (x ∷ []))))) h
   | inr less ↦ subst (λ v. depth 0 v ≤ 200) (sym (take-append-le n a (x ∷ []) less)) (s n less)
-  ]
+]
 
 nowhere_deep : Shallow []
 nowhere_deep n le = subst (λ v. depth 0 v ≤ 200) (sym (take_all {A = Sym} n [] (omega arith))) (omega arith)
@@ -113,7 +113,7 @@ module _ (p : Production) (text : List ℕ) where
   syms_next before t = map-append (sym_of text) before (t ∷ [])
 
   stands : {before : List Token} {n : Now} {hs : List Held} → Kept p text before n hs → Stands p (syms text before)
-  stands {before = before} k = record { fits = can_stand p (syms text before) k.state k.runs; shallow = k.shallow; }
+  stands {before = before} k = record { fits = can_stand p (syms text before) k.state k.runs; shallow = k.shallow }
 
   stepped : {before : List Token} {n : Now} {hs : List Held} (k : Kept p text before n hs) (x : Sym) → InRange n x
       → shapes (step k.state x) ≡ apply_turn (turn_at n (class_of x)) hs
@@ -142,12 +142,12 @@ module _ (p : Production) (text : List ℕ) where
   kept_next : {before : List Token} {n : Now} {hs : List Held} (k : Kept p text before n hs) (t : Token) (n' : Now) (hs' : List Held)
       → is_out_of_range n t ≡ false → apply_turn (turn_at n (class_at text t)) hs ≡ Some (n', hs') → length hs' ≤ 200 → Kept p text (before ++ t ∷ []) n' hs'
   kept_next {before = before} k t n' hs' r e le = record {
-      state = f.0;
-      runs = ap (run (start p)) (syms_next before t) ∙ run_next (syms text before) (sym_of text t) (start p) k.state k.runs ∙ f.1;
-      shaped = f.2;
-      shallow = subst Shallow (sym (syms_next before t)) (shallow_next (syms text before) (sym_of text t) k.shallow (subst (λ v. v ≤ 200) (deeper_now k t n' hs' e) le));
-      deep = deeper_now k t n' hs' e ∙ ap (depth 0) (sym (syms_next before t));
-    }
+    state = f.0;
+    runs = ap (run (start p)) (syms_next before t) ∙ run_next (syms text before) (sym_of text t) (start p) k.state k.runs ∙ f.1;
+    shaped = f.2;
+    shallow = subst Shallow (sym (syms_next before t)) (shallow_next (syms text before) (sym_of text t) k.shallow (subst (λ v. v ≤ 200) (deeper_now k t n' hs' e) le));
+    deep = deeper_now k t n' hs' e ∙ ap (depth 0) (sym (syms_next before t));
+  }
     where
       f : (state : State) × (step k.state (sym_of text t) ≡ Some state) × (shape state ≡ (n', hs'))
       f = from_shape (step k.state (sym_of text t)) (n', hs') (ranged k t r ∙ e)
@@ -188,7 +188,7 @@ module _ (p : Production) (text : List ℕ) where
     too_large_here {n = n} k t r =
         let f = large_number text t n r in
         ap (step k.state) f.1 ∙ large_stuck k.state.0 k.state.1 f.0 t.start
-            (subst (λ (z : Now × List Held). is_too_large (has_sign z.0 t.start) f.0 ≡ true) (sym k.shaped) f.2)
+        (subst (λ (z : Now × List Held). is_too_large (has_sign z.0 t.start) f.0 ≡ true) (sym k.shaped) f.2)
 
     spoils_range : {before : List Token} {n : Now} {hs : List Held} (k : Kept p text before n hs) (t : Token) (n' : Now) (hs' : List Held) → is_out_of_range n t ≡ true → apply_turn (turn_at n (class_at text t)) hs ≡ Some (n', hs')
         → Spoils p (syms text before) (sym_of text t) reason.IntegerTooLarge
@@ -229,7 +229,7 @@ end_clean p text (Some f) k b e found = cc
 end_clean p text None k false e found = cc
 end_clean p text None {before = before} k true e found =
     let f = from_done (accept k.state) (ended p text None k ∙ e) in
-    record { whole = refl; shallow = k.shallow; tree = f.0; accepted = parse_run (syms text before) (start p) k.state k.runs ∙ f.1; }
+    record { whole = refl; shallow = k.shallow; tree = f.0; accepted = parse_run (syms text before) (start p) k.state k.runs ∙ f.1 }
 
 -- ---- all tokens
 
@@ -249,7 +249,7 @@ deep_or_later : (p : Production) (text : List ℕ) (spoiled : Option LexFault) {
     → fault_or t.start (if over then Some reason.TooDeep else None) (fault_from text spoiled n' hs' ts) ≡ Some (byte, why) → IsFault p text (before ++ t ∷ ts) spoiled byte why
 deep_or_later p text spoiled {before = before} k t ts n' hs' e r later true over byte why found =
     same_fault p text spoiled (before ++ t ∷ ts) t.start byte reason.TooDeep why found
-        (fault_there p text spoiled before t ts reason.TooDeep (stands p text k) (spoils_depth p text spoiled k t n' hs' r e (grind (arith, nat_tests))))
+    (fault_there p text spoiled before t ts reason.TooDeep (stands p text k) (spoils_depth p text spoiled k t n' hs' r e (grind (arith, nat_tests))))
 deep_or_later p text spoiled {before = before} k t ts n' hs' e r later false over byte why found =
     shift p text spoiled before t ts byte why (later (kept_next p text k t n' hs' r e (grind (arith, nat_tests))) byte why found)
 
@@ -258,10 +258,10 @@ found_at : (p : Production) (text : List ℕ) (spoiled : Option LexFault) {befor
     → (byte : ℕ) (why : Reason) → fault_at large t m (λ n' hs'. fault_from text spoiled n' hs' ts) ≡ Some (byte, why) → IsFault p text (before ++ t ∷ ts) spoiled byte why
 found_at p text spoiled {before = before} k t ts None e large r later byte why found =
     same_fault p text spoiled (before ++ t ∷ ts) t.start byte reason.Syntax why found
-        (fault_there p text spoiled before t ts reason.Syntax (stands p text k) (spoils_place p text spoiled k t e))
+    (fault_there p text spoiled before t ts reason.Syntax (stands p text k) (spoils_place p text spoiled k t e))
 found_at p text spoiled {before = before} k t ts (Some (n', hs')) e true r later byte why found =
     same_fault p text spoiled (before ++ t ∷ ts) t.start byte reason.IntegerTooLarge why found
-        (fault_there p text spoiled before t ts reason.IntegerTooLarge (stands p text k) (spoils_range p text spoiled k t n' hs' r e))
+    (fault_there p text spoiled before t ts reason.IntegerTooLarge (stands p text k) (spoils_range p text spoiled k t n' hs' r e))
 found_at p text spoiled k t ts (Some (n', hs')) e false r later byte why found =
     deep_or_later p text spoiled k t ts n' hs' e r (later n' hs') (nat_lt 200 (length hs')) refl byte why found
 
@@ -296,8 +296,8 @@ clean p text spoiled (t ∷ ts) before n hs k e =
 -- ---- from the start
 
 kept_start : (p : Production) (text : List ℕ) → Kept p text [] (starts p) []
-kept_start AMethod text = record { state = start AMethod; runs = refl; shaped = refl; shallow = nowhere_deep; deep = refl; }
-kept_start ABody text = record { state = start ABody; runs = refl; shaped = refl; shallow = nowhere_deep; deep = refl; }
+kept_start AMethod text = record { state = start AMethod; runs = refl; shaped = refl; shallow = nowhere_deep; deep = refl }
+kept_start ABody text = record { state = start ABody; runs = refl; shaped = refl; shallow = nowhere_deep; deep = refl }
 
 -- what a scan finds is the first fault
 pub first_fault : (p : Production) (text : List ℕ) (tokens : List Token) (spoiled : Option LexFault) (byte : ℕ) (why : Reason)

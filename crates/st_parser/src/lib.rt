@@ -10,6 +10,8 @@ mod parse;
 mod scan;
 mod scan_state;
 mod stop;
+#[cfg(test)]
+mod tests;
 mod trees;
 
 pub use parse::{body, method};
