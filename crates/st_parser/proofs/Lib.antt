@@ -1,4 +1,5 @@
 mod Examples
+mod FaultExamples
 pub mod Follow
 pub mod Arrays
 pub mod Complete
