@@ -5,7 +5,6 @@ use Rattle.st_tree.specs.declared.tree.Name.{Name}
 use Rattle.st_tree.specs.declared.tree.Literal.{Literal}
 use Rattle.st_tree.specs.declared.tree.Literal.TheVariants as literal
 use Rattle.st_tree.specs.declared.tree.Primary.{Primary}
-use Rattle.st_tree.specs.declared.tree.Primary.TheVariants as primary
 use Rattle.st_tree.specs.declared.tree.Statement.{Statement}
 use Rattle.st_tree.specs.declared.tree.Message.{Message}
 use Rattle.st_tree.specs.declared.tree.Operand.{Operand}
@@ -13,7 +12,7 @@ use Rattle.st_tree.specs.Symbols.{Sym, Id, Key, Op, Minus, Bar, TwoBars, ThreeBa
 use Rattle.st_tree.specs.Trees.{variable, integer, negative, constant, block}
 use Rattle.st_tree.specs.Grammar.{Production, AMethod, ABody}
 use Rattle.st_tree.specs.Faults.{deeper, depth}
-use Rattle.st_parser.specs.Machine.{Selector, Left, First, Further, Outer, Receiver, Argument, Inner, Plain, Right, FurtherRight, Place, Start, Bare, Have, Want, Super, Signed, Again, Sent, Headed, Level, Top, Block, Home, Paren, Body, Here, Pattern, OperatorRead, KeywordRead, ParameterRead, Opened, Parameter, Fresh, Temporaries, Statements, Ended, Within, Elements, Dash, Run, Frame, Waits, Holds, Whole, State, Move, Next, OpenArray, OpenParen, OpenBlock, run, step, start, selector, with_binary, whole, move, moved, begin, bare, have, want, word, first_word, super_goes, negated, signed, resend, sent, after_operator, after_keyword, keyword_outer, after_semicolon, again_outer, fresh, temporaries, temporary_word, step_at, within, statements, ended, opened, parameter, parameter_word, up, close_paren, close_block, close_level, close_array, period, pattern, operator_word, operator_read, keyword_word, keyword_read, parameter_read, elements, with_item, negated_item, dash, keyword_run}
+use Rattle.st_parser.specs.Machine.{Selector, Outer, Receiver, Argument, Inner, Plain, Right, FurtherRight, Place, Start, Bare, Have, Want, Super, Signed, Again, Sent, Headed, Level, Top, Block, Home, Paren, Body, Here, Pattern, OperatorRead, KeywordRead, ParameterRead, Opened, Parameter, Fresh, Temporaries, Statements, Ended, Within, Elements, Dash, Run, Frame, Waits, Holds, Whole, State, Move, Next, OpenArray, OpenParen, OpenBlock, run, step, start, selector, with_binary, whole, move, moved, begin, bare, have, want, word, first_word, super_goes, negated, resend, after_operator, after_keyword, keyword_outer, after_semicolon, again_outer, fresh, temporaries, temporary_word, step_at, within, statements, ended, opened, parameter, parameter_word, up, close_paren, close_block, close_level, close_array, period, pattern, operator_word, operator_read, keyword_word, keyword_read, parameter_read, elements, with_item, negated_item, dash, keyword_run}
 use Rattle.st_parser.proofs.Arrays.{dash_symbol}
 
 -- a symbol that neither opens nor closes

@@ -4,6 +4,7 @@ pub mod Classes
 pub mod Complete
 pub mod Deep
 mod Examples
+mod FaultExamples
 pub mod Follow
 pub mod Found
 pub mod Larges

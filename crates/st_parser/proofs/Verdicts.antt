@@ -14,6 +14,7 @@ use Rattle.st_tree.specs.Faults.{CanStand, CannotStand, deeper, depth, Shallow, 
 use Rattle.st_parser.specs.Machine.{State, step, run, parse, accept, start}
 use Rattle.st_parser.specs.Verdict.{Verdict, Good, Bad, verdict_end, verdict_at, verdict_from, verdict_of}
 use Rattle.st_parser.proofs.Complete.{complete}
+use Rattle.st_parser.proofs.Depth.{frames_depth}
 use Rattle.st_parser.proofs.SoundLevels.{sound}
 use Rattle.st_parser.proofs.Viable.{can_stand}
 use Rattle.st_parser.proofs.Runs.{run_next, runs, parse_run, depth_next, shallow_nil, stays_shallow, aside_step, stands, is_out_of_place, is_out_of_range, is_too_deep, goes_on, derived, not_derived}
@@ -226,4 +227,4 @@ machine_fronts p a = (runs p a, λ k. can_stand p a k.0 k.1)
 
 pub ruleset laws = (either, not_both, one_fault)
 
-pub ruleset machine_laws = (machine_trees, machine_fronts)
+pub ruleset machine_laws = (machine_trees, machine_fronts, frames_depth)
