@@ -8,13 +8,12 @@ use Rattle.st_base.specs.declared.tokens.TokenKind.TheVariants as kind
 use Rattle.st_tree.specs.declared.tree.Primary.TheVariants as primary
 use Rattle.st_tree.specs.declared.tree.Literal.TheVariants as literal
 use Rattle.st_tree.specs.Symbols.{Sym, Id, Key, Op, Minus, Bar, TwoBars, ThreeBars, Num, Lit, ArrayOpen, ParenOpen, ParenClose, BlockOpen, BlockClose, Colon, Assign, Caret, Period, Semicolon, Role, IsName, IsValue, IsSuper, role, operator_at, sym_at, sym_of}
-use Rattle.st_tree.specs.Faults.{aside, deeper}
+use Rattle.st_tree.specs.Faults.{aside}
 use Rattle.st_parser.specs.declared.scan_state.Class.{Class}
 use Rattle.st_parser.specs.declared.scan_state.Class.TheVariants as c
 use Rattle.st_parser.specs.declared.scan_state.Now.{Now}
 use Rattle.st_parser.specs.Finding.{word_class, operator_class, class_by, class_at, has_sign, is_too_large, is_beyond, is_out_of_range}
 use Rattle.st_parser.proofs.Shape.{class_of, class_of_role, by_role, InRange}
-use Rattle.st_parser.proofs.Deep.{along, way, Way}
 
 word_cases : (a b d e f : Bool)
     → (if a then c.Value else (if b then c.Value else (if d then c.Value else (if e then c.Value else (if f then c.Super else c.Name)))))
@@ -86,11 +85,3 @@ small false = refl
 pub aside_range : (n : Now) (x : Sym) → InRange n (aside x)
 aside_range n (Num v at) = small (has_sign n at)
 aside_range n _ = tt
-
-pub ways : (x : Sym) (d : ℕ) → along (way (class_of x)) d ≡ deeper d x
-ways (Id t at) d = by_role (λ k. along (way k) d ≡ d) refl refl refl (role t)
-ways _ d = refl
-
-pub aside_deeper : (x : Sym) (d : ℕ) → deeper d (aside x) ≡ deeper d x
-aside_deeper (Num v at) d = refl
-aside_deeper _ d = refl

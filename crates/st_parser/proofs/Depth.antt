@@ -25,7 +25,7 @@ MoveFits s None = Unit {0}
 MoveFits s (Some (Next place)) = Flat s
 MoveFits s (Some m) = (d : ℕ) → suc d ≡ deeper d s
 
-abbrev KeepsDepth : List Frame → Sym → Option State → Type 0
+abbrev pub KeepsDepth : List Frame → Sym → Option State → Type 0
 KeepsDepth fs s None = Unit {0}
 KeepsDepth fs s (Some next) = length next.1 ≡ deeper (length fs) s
 

@@ -2,7 +2,6 @@ pub mod Ahead
 pub mod Arrays
 pub mod Classes
 pub mod Complete
-pub mod Deep
 mod Examples
 mod FaultExamples
 pub mod Follow
