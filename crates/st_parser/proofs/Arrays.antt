@@ -1,20 +1,14 @@
 -- What the machine makes of the items of an array.
-use Rattle.std.proofs.Common.{◌≡◌, ℕ, List, [], ◌∷◌, ◌++◌, Bool, true, false, refl, ap, sym, ◌∙◌, append-nil, append_assoc, ◌+◌, ◌<◌, ◌≤◌, ◌^◌, Option, Some, None, if◌then◌else◌, length}
-use Rattle.std.specs.Prelude.{option_and_then, ◌==◌, nat_lt, nat_le}
+use Rattle.std.proofs.Common.{◌≡◌, ℕ, List, [], ◌∷◌, ◌++◌, refl, ap, sym, ◌∙◌, append-nil, append_assoc, ◌+◌, ◌<◌, ◌≤◌, ◌^◌, Some, None, if◌then◌else◌, length}
+use Rattle.std.specs.Prelude.{option_and_then}
 use Rattle.std.proofs.lemmas.Bool.{eq-eqb, ne_eqb, lt-ltb, le-leb}
-use Rattle.st_tree.specs.declared.tree.Name.{Name}
 use Rattle.st_tree.specs.declared.tree.Literal.{Literal}
 use Rattle.st_tree.specs.declared.tree.Literal.TheVariants as literal
-use Rattle.st_tree.specs.declared.tree.Primary.{Primary}
-use Rattle.st_tree.specs.declared.tree.Primary.TheVariants as primary
-use Rattle.st_tree.specs.declared.tree.Statement.{Statement}
-use Rattle.st_tree.specs.declared.tree.Message.{Message}
-use Rattle.st_tree.specs.declared.tree.Operand.{Operand}
-use Rattle.st_tree.specs.Symbols.{Sym, Id, Key, Op, Minus, Bar, TwoBars, ThreeBars, Num, Lit, ArrayOpen, ParenOpen, ParenClose, BlockOpen, BlockClose, Colon, Assign, Caret, Period, Semicolon, Role, IsName, IsValue, IsSuper, role, word_item, IsOp, op, minus, bar, two_bars, three_bars}
-use Rattle.st_tree.specs.Trees.{name, variable, integer, negative, array, constant, message, operand, expr, body, block, paren, stated}
+use Rattle.st_tree.specs.Symbols.{Sym, Key, Num}
+use Rattle.st_tree.specs.Trees.{integer, negative}
 use Rattle.st_tree.specs.Grammar as g
 use Rattle.st_tree.specs.Grammar.{Production, AMethod, ABody, Tree, MethodTree, BodyTree}
-use Rattle.st_parser.specs.Machine.{Here, Elements, Dash, Run, Frame, Waits, Holds, State, parse, elements, with_item, negated_item}
+use Rattle.st_parser.specs.Machine.{Elements, Dash, Run, Frame, Holds, parse, elements, with_item, negated_item}
 
 abbrev pub dash_symbol : Literal
 dash_symbol = literal.Symbol (45 ∷ [])

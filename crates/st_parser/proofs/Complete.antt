@@ -1,21 +1,18 @@
 -- What the grammar derives, the machine reads.
-use Rattle.std.proofs.Common.{◌≡◌, ℕ, List, [], ◌∷◌, ◌++◌, Bool, true, false, refl, ap, ap₂, sym, ◌∙◌, append-nil, append_assoc, Option, Some, None}
+use Rattle.std.proofs.Common.{◌≡◌, ℕ, List, [], ◌∷◌, ◌++◌, Bool, true, false, refl, ap, ap₂, sym, ◌∙◌, append-nil, append_assoc, Some}
 use Rattle.std.specs.Prelude.{option_and_then}
 use Rattle.st_tree.specs.declared.tree.Name.{Name}
-use Rattle.st_tree.specs.declared.tree.Literal.{Literal}
-use Rattle.st_tree.specs.declared.tree.Literal.TheVariants as literal
 use Rattle.st_tree.specs.declared.tree.Primary.{Primary}
-use Rattle.st_tree.specs.declared.tree.Primary.TheVariants as primary
 use Rattle.st_tree.specs.declared.tree.Statement.{Statement}
 use Rattle.st_tree.specs.declared.tree.Message.{Message}
 use Rattle.st_tree.specs.declared.tree.Operand.{Operand}
-use Rattle.st_tree.specs.Symbols.{Sym, Id, Key, Op, Minus, Bar, TwoBars, ThreeBars, Num, Lit, ArrayOpen, ParenOpen, ParenClose, BlockOpen, BlockClose, Colon, Assign, Caret, Period, Semicolon, Role, IsName, IsValue, IsSuper, role, word_item, IsOp, op, minus, bar, two_bars, three_bars}
-use Rattle.st_tree.specs.Trees.{name, variable, integer, negative, array, constant, message, operand, expr, body, block, paren, stated}
+use Rattle.st_tree.specs.Symbols.{Sym, Id, Key, Assign, IsName, role, IsOp, op, minus, bar, two_bars, three_bars}
+use Rattle.st_tree.specs.Trees.{name, message, operand, expr, stated}
 use Rattle.st_tree.specs.Grammar as g
 use Rattle.st_tree.specs.Grammar.{Production, AMethod, ABody, Tree, MethodTree, BodyTree}
-use Rattle.st_parser.specs.Machine.{Selector, Left, First, Further, Outer, Receiver, Argument, Inner, Plain, Right, FurtherRight, Place, Start, Bare, Have, Want, Super, Signed, Again, Sent, Heading, NoPattern, Headed, Level, Top, Block, Home, Paren, Body, Here, Pattern, OperatorRead, KeywordRead, ParameterRead, Opened, Parameter, Fresh, Temporaries, Statements, Ended, Within, Elements, Frame, Waits, Holds, Whole, State, finish, finish_left, finish_outer, with_binary, parse, start, selector, joined, tree_of, operator_word, keyword_word}
+use Rattle.st_parser.specs.Machine.{Selector, Left, First, Further, Outer, Receiver, Argument, Inner, Plain, Right, FurtherRight, Start, Have, Want, Sent, Heading, NoPattern, Headed, Level, Top, Block, Home, Paren, Body, Pattern, KeywordRead, ParameterRead, Fresh, Statements, Ended, Within, Frame, Waits, finish_left, parse, start, selector, joined, tree_of, operator_word, keyword_word}
 use Rattle.st_parser.proofs.Arrays.{items_read}
-use Rattle.st_parser.proofs.Follow.{Ends, Closes, EndsBody, NotId, NotKey, NotAssign, Ends-closes, EndsBody-ends, Closes-not_id, Closes-not_assign, binaries_not_id, messages_not_assign, cascade_closes, expr_begins, statements_not_colon, statements_not_key, temps_not_key, settle, at_end, at_close, at_close_binary, at_cascade, first_primary, role_first, role_wanted, value_wanted, super_wanted, number_wanted, negative_wanted, super_is, operator_read, operator_again, Follows, fine_unaries, fine_binaries, fine_messages, names_read, temps_read, temps_not_colon, statements_not_bars, parameters_two, parameters_three, parameters_gather, parameters_bar, parameters_close, no_parameters, begins_statement, at_body_end, last_ends}
+use Rattle.st_parser.proofs.Follow.{Ends, Closes, EndsBody, NotId, NotKey, EndsBody-ends, Closes-not_id, Closes-not_assign, binaries_not_id, messages_not_assign, cascade_closes, expr_begins, statements_not_colon, statements_not_key, temps_not_key, settle, at_close, at_close_binary, at_cascade, first_primary, role_first, role_wanted, value_wanted, super_wanted, number_wanted, negative_wanted, super_is, operator_read, operator_again, Follows, fine_unaries, fine_binaries, fine_messages, names_read, temps_read, temps_not_colon, statements_not_bars, parameters_two, parameters_three, parameters_gather, parameters_bar, parameters_close, no_parameters, begins_statement, at_body_end, last_ends}
 
 pub unaries_read : {a b : List Sym} {ms : List Message} → g.Unaries a b ms → (home : Home) (fs : List Frame) (tg : List Name) (inner : Inner) (p : Primary) (ch : List Message)
     → parse (Within home (Have tg inner p ch), fs) a ≡ parse (Within home (Have tg inner p (ch ++ ms)), fs) b

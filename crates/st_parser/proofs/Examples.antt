@@ -1,13 +1,11 @@
 -- What the machine makes of some short lists of tokens.
-use Rattle.std.proofs.Common.{◌≡◌, ℕ, List, [], ◌∷◌, Bool, true, false, refl, Option, Some, None, codes}
-use Rattle.std.specs.Prelude.{slice_index}
+use Rattle.std.proofs.Common.{◌≡◌, ℕ, [], ◌∷◌, true, false, refl, Some, None, codes}
 use Rattle.st_base.specs.declared.tokens.Token.{Token}
 use Rattle.st_base.specs.declared.tokens.TokenKind.{TokenKind}
 use Rattle.st_base.specs.declared.tokens.TokenKind.TheVariants as kind
 use Rattle.st_tree.specs.declared.tree.Literal.TheVariants as literal
 use Rattle.st_tree.specs.declared.tree.Primary.TheVariants as primary
-use Rattle.st_tree.specs.declared.tree.Name.{Name}
-use Rattle.st_tree.specs.Symbols.{Sym, syms, role, word_item, string_value}
+use Rattle.st_tree.specs.Symbols.{syms, role, word_item, string_value}
 use Rattle.st_tree.specs.Trees.{name, variable, integer, negative, array, constant, message, operand, expr, body, block, paren, stated}
 use Rattle.st_tree.specs.Grammar.{AMethod, ABody, MethodTree, BodyTree}
 use Rattle.st_parser.specs.Machine.{parse, run, start}
@@ -21,11 +19,11 @@ assigns : parse (start ABody) (syms (codes "x := a foo: 1 - -2 bar; + b. ^super 
     ∷ t (kind.Integer 2) 17 18 ∷ t kind.Identifier 19 22 ∷ t kind.Semicolon 22 23 ∷ t kind.Operator 24 25 ∷ t kind.Identifier 26 27 ∷ t kind.Period 27 28
     ∷ t kind.Caret 29 30 ∷ t kind.Identifier 30 35 ∷ t kind.Identifier 36 39 ∷ []))
     ≡ Some (BodyTree (body [] (
-      stated false (expr (name (codes "x") 0 ∷ []) (operand (variable (name (codes "a") 5)) (message (codes "foo:") 7
-          (operand (constant (integer 1)) (message (codes "-") 14 (operand (constant (negative 2)) (message (codes "bar") 19 [] ∷ []) ∷ []) ∷ []) ∷ []) ∷ []))
-          (message (codes "+") 24 (operand (variable (name (codes "b") 26)) [] ∷ []) ∷ []))
-      ∷ stated true (expr [] (operand primary.SuperValue (message (codes "baz") 36 [] ∷ [])) [])
-      ∷ [])))
+    stated false (expr (name (codes "x") 0 ∷ []) (operand (variable (name (codes "a") 5)) (message (codes "foo:") 7
+    (operand (constant (integer 1)) (message (codes "-") 14 (operand (constant (negative 2)) (message (codes "bar") 19 [] ∷ []) ∷ []) ∷ []) ∷ []) ∷ []))
+    (message (codes "+") 24 (operand (variable (name (codes "b") 26)) [] ∷ []) ∷ []))
+    ∷ stated true (expr [] (operand primary.SuperValue (message (codes "baz") 36 [] ∷ [])) [])
+    ∷ [])))
 unfolding t role
 assigns = refl
 
@@ -35,8 +33,8 @@ arrays : parse (start ABody) (syms (codes "#($a #b: 'c''d' - 5 -5 a:b: c: x nil 
     ∷ t kind.Keyword 23 25 ∷ t kind.Keyword 25 27 ∷ t kind.Keyword 28 30 ∷ t kind.Identifier 31 32 ∷ t kind.Identifier 33 36 ∷ t kind.ParenOpen 37 38 ∷ t kind.Identifier 38 42
     ∷ t kind.ArrayOpen 43 45 ∷ t kind.Operator 45 46 ∷ t kind.ParenClose 46 47 ∷ t kind.ParenClose 47 48 ∷ t kind.QuotedSymbol 49 55 ∷ t kind.ParenClose 55 56 ∷ []))
     ≡ Some (BodyTree (body [] (stated false (expr [] (operand (constant (array (
-      literal.Character 97 ∷ literal.Symbol (codes "b:") ∷ literal.Str (codes "c'd") ∷ literal.Symbol (codes "-") ∷ integer 5 ∷ negative 5 ∷ literal.Symbol (codes "a:b:") ∷ literal.Symbol (codes "c:")
-      ∷ literal.Symbol (codes "x") ∷ literal.Nil ∷ array (literal.True ∷ array (literal.Symbol (codes "|") ∷ []) ∷ []) ∷ literal.Symbol (codes "q q") ∷ []))) []) []) ∷ [])))
+    literal.Character 97 ∷ literal.Symbol (codes "b:") ∷ literal.Str (codes "c'd") ∷ literal.Symbol (codes "-") ∷ integer 5 ∷ negative 5 ∷ literal.Symbol (codes "a:b:") ∷ literal.Symbol (codes "c:")
+    ∷ literal.Symbol (codes "x") ∷ literal.Nil ∷ array (literal.True ∷ array (literal.Symbol (codes "|") ∷ []) ∷ []) ∷ literal.Symbol (codes "q q") ∷ []))) []) []) ∷ [])))
 unfolding t role word_item string_value
 arrays = refl
 
@@ -49,10 +47,10 @@ methods : parse (start AMethod) (syms (codes "at: i put: v | u | [:p || q | ^p].
       selector = codes "at:put:";
       parameters = name (codes "i") 4 ∷ name (codes "v") 11 ∷ [];
       body = body (name (codes "u") 15 ∷ []) (
-        stated false (expr [] (operand (block 19 (name (codes "p") 21 ∷ []) (name (codes "q") 26 ∷ []) (stated true (expr [] (operand (variable (name (codes "p") 31)) []) []) ∷ [])) []) [])
-        ∷ stated false (expr [] (operand (block 35 (name (codes "r") 37 ∷ []) [] []) []) [])
-        ∷ stated false (expr [] (operand (block 41 [] [] []) []) [])
-        ∷ []);
+          stated false (expr [] (operand (block 19 (name (codes "p") 21 ∷ []) (name (codes "q") 26 ∷ []) (stated true (expr [] (operand (variable (name (codes "p") 31)) []) []) ∷ [])) []) [])
+          ∷ stated false (expr [] (operand (block 35 (name (codes "r") 37 ∷ []) [] []) []) [])
+          ∷ stated false (expr [] (operand (block 41 [] [] []) []) [])
+          ∷ []);
     }))
 unfolding t role
 methods = refl

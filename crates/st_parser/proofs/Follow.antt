@@ -1,20 +1,18 @@
 -- What may follow a part, and how the machine stands there.
-use Rattle.std.proofs.Common.{◌≡◌, ℕ, List, [], ◌∷◌, ◌++◌, Bool, true, false, refl, ap, sym, ◌∙◌, append-nil, append_assoc, ◌+◌, ◌<◌, ◌≤◌, ◌^◌, subst, Option, Some, None, if◌then◌else◌}
-use Rattle.std.specs.Prelude.{option_and_then, ◌==◌, nat_lt, nat_le}
+use Rattle.std.proofs.Common.{◌≡◌, ℕ, List, [], ◌∷◌, ◌++◌, Bool, true, false, refl, ap, sym, ◌∙◌, append-nil, append_assoc, ◌+◌, ◌<◌, ◌≤◌, ◌^◌, Some, None, if◌then◌else◌}
+use Rattle.std.specs.Prelude.{option_and_then}
 use Rattle.std.proofs.lemmas.Bool.{eq-eqb, lt-ltb, le-leb}
 use Rattle.st_tree.specs.declared.tree.Name.{Name}
-use Rattle.st_tree.specs.declared.tree.Literal.{Literal}
-use Rattle.st_tree.specs.declared.tree.Literal.TheVariants as literal
 use Rattle.st_tree.specs.declared.tree.Primary.{Primary}
 use Rattle.st_tree.specs.declared.tree.Primary.TheVariants as primary
 use Rattle.st_tree.specs.declared.tree.Statement.{Statement}
 use Rattle.st_tree.specs.declared.tree.Message.{Message}
 use Rattle.st_tree.specs.declared.tree.Operand.{Operand}
-use Rattle.st_tree.specs.Symbols.{Sym, Id, Key, Op, Minus, Bar, TwoBars, ThreeBars, Num, Lit, ArrayOpen, ParenOpen, ParenClose, BlockOpen, BlockClose, Colon, Assign, Caret, Period, Semicolon, Role, IsName, IsValue, IsSuper, role, word_item, IsOp, op, minus, bar, two_bars, three_bars}
-use Rattle.st_tree.specs.Trees.{name, variable, integer, negative, array, constant, message, operand, expr, body, block, paren, stated}
+use Rattle.st_tree.specs.Symbols.{Sym, Id, Key, Op, Minus, Bar, TwoBars, ThreeBars, Num, Lit, ArrayOpen, ParenOpen, ParenClose, BlockOpen, BlockClose, Colon, Assign, Period, Semicolon, IsName, IsValue, IsSuper, role, IsOp, op, minus, bar, two_bars, three_bars}
+use Rattle.st_tree.specs.Trees.{name, variable, integer, negative, constant, message, operand, expr, block, stated}
 use Rattle.st_tree.specs.Grammar as g
 use Rattle.st_tree.specs.Grammar.{Production, AMethod, ABody, Tree, MethodTree, BodyTree}
-use Rattle.st_parser.specs.Machine.{Selector, Left, First, Further, Outer, Receiver, Argument, Inner, Plain, Right, FurtherRight, Place, Start, Bare, Have, Want, Super, Signed, Again, Sent, Level, Top, Block, Home, Paren, Body, Here, Opened, Parameter, Fresh, Temporaries, Statements, Ended, Within, Frame, Waits, Holds, Whole, State, Move, Next, finish, finish_left, finish_outer, with_binary, parse, expr_of, moved, first_word, word, negated, parameter_word, selector, temporary_word, with_temporary}
+use Rattle.st_parser.specs.Machine.{Selector, Left, Outer, Receiver, Argument, Inner, Plain, Right, FurtherRight, Start, Bare, Have, Want, Super, Sent, Level, Top, Block, Home, Body, Opened, Parameter, Fresh, Temporaries, Statements, Ended, Within, Frame, Waits, Next, finish, finish_left, with_binary, parse, moved, first_word, word, negated, parameter_word, selector, temporary_word, with_temporary}
 
 -- an expression ends here
 abbrev pub Ends : List Sym → Type 0

@@ -1,20 +1,17 @@
 -- From behind a token to before it: what the machine reads of an expression, the grammar derives.
-use Rattle.std.proofs.Common.{◌≡◌, ℕ, List, [], ◌∷◌, ◌++◌, Bool, true, false, refl, ap, ap₂, sym, ◌∙◌, subst, append-nil, append_assoc, ◌<◌, ◌≤◌, ◌^◌, Option, Some, None, if◌then◌else◌, ◌+◌}
-use Rattle.std.specs.Prelude.{option_and_then, ◌==◌, nat_lt, nat_le}
+use Rattle.std.proofs.Common.{◌≡◌, ℕ, List, [], ◌∷◌, ◌++◌, Bool, true, false, refl, ap, ap₂, sym, ◌∙◌, subst, append-nil, append_assoc, ◌≤◌, ◌^◌, Option, Some, None, if◌then◌else◌, ◌+◌}
+use Rattle.std.specs.Prelude.{◌==◌, nat_lt, nat_le}
 use Rattle.std.proofs.lemmas.Bool.{eqb-true, ltb-true, leb-true}
 use Rattle.st_tree.specs.declared.tree.Name.{Name}
-use Rattle.st_tree.specs.declared.tree.Literal.{Literal}
-use Rattle.st_tree.specs.declared.tree.Literal.TheVariants as literal
 use Rattle.st_tree.specs.declared.tree.Primary.{Primary}
 use Rattle.st_tree.specs.declared.tree.Primary.TheVariants as primary
-use Rattle.st_tree.specs.declared.tree.Statement.{Statement}
 use Rattle.st_tree.specs.declared.tree.Message.{Message}
 use Rattle.st_tree.specs.declared.tree.Operand.{Operand}
-use Rattle.st_tree.specs.Symbols.{Sym, Id, Key, Op, Minus, Bar, TwoBars, ThreeBars, Num, Lit, ArrayOpen, ParenOpen, ParenClose, BlockOpen, BlockClose, Colon, Assign, Caret, Period, Semicolon, Role, IsName, IsValue, IsSuper, role, word_item, IsOp, op, minus, bar, two_bars, three_bars}
-use Rattle.st_tree.specs.Trees.{name, variable, integer, negative, array, constant, message, operand, expr, body, block, paren, stated}
+use Rattle.st_tree.specs.Symbols.{Sym, Id, Key, Op, Minus, Bar, TwoBars, ThreeBars, Num, Lit, ArrayOpen, ParenOpen, BlockOpen, Assign, Semicolon, Role, IsName, IsValue, IsSuper, role, IsOp, op, minus, bar, two_bars, three_bars}
+use Rattle.st_tree.specs.Trees.{name, variable, integer, negative, constant, message, operand}
 use Rattle.st_tree.specs.Grammar as g
 use Rattle.st_tree.specs.Grammar.{Production, AMethod, ABody, Tree, MethodTree, BodyTree}
-use Rattle.st_parser.specs.Machine.{Selector, Left, First, Further, Outer, Receiver, Argument, Inner, Plain, Right, FurtherRight, Place, Start, Bare, Have, Want, Super, Signed, Again, Sent, Home, Paren, Body, Here, Within, Frame, Whole, State, Move, Next, OpenArray, OpenParen, OpenBlock, finish, finish_left, finish_outer, with_binary, parse, selector, joined, whole, move, moved, begin, bare as bare_step, have, want, super_goes, negated, signed, word, first_word, resend, sent, after_operator, after_keyword, keyword_outer, after_semicolon, again_outer, again}
+use Rattle.st_parser.specs.Machine.{Selector, Left, First, Further, Outer, Receiver, Argument, Inner, Plain, Right, FurtherRight, Place, Start, Bare, Have, Want, Super, Signed, Again, Sent, Whole, Move, Next, OpenArray, OpenParen, OpenBlock, finish, finish_left, finish_outer, with_binary, selector, joined, whole, move, begin, bare as bare_step, have, want, super_goes, negated, signed, word, first_word, resend, sent, after_operator, after_keyword, keyword_outer, after_semicolon, again_outer}
 
 -- the messages behind `;`
 abbrev pub SentGoes : Operand → List Message → List Sym → List Sym → Operand → List Message → Type 0
@@ -89,9 +86,13 @@ inner_fine v (FurtherRight r first s) p ch a b o cs f all (f', k) = (f, k)
 
 unary_back : (v : Bool) (inner : Inner) (p : Primary) (ch : List Message) (t : List ℕ) (at : ℕ) (a b : List Sym) (o : Operand) (cs : List Message)
     → HaveGoes false inner p (ch ++ message t at [] ∷ []) a b o cs → HaveGoes v inner p ch (Id t at ∷ a) b o cs
-unary_back v inner p ch t at a b o cs (c, us, u, i) =
-    (c, message t at [] ∷ us, g.more u, inner_fine v inner p (ch ++ message t at [] ∷ us) c b o cs (fine_mid v ch (message t at []) us) (fine_all v ch (message t at []) us)
-    (subst (λ x. InnerGoes false inner p x c b o cs) (append_assoc ch (message t at [] ∷ []) us) i))
+unary_back v inner p ch t at a b o cs (c, us, u, i) = (
+  c,
+  message t at [] ∷ us,
+  g.more u,
+  inner_fine v inner p (ch ++ message t at [] ∷ us) c b o cs (fine_mid v ch (message t at []) us) (fine_all v ch (message t at []) us)
+      (subst (λ x. InnerGoes false inner p x c b o cs) (append_assoc ch (message t at [] ∷ []) us) i),
+)
 
 -- an operand whose own unary messages are read
 plain_have : (v : Bool) (outer : Outer) (p : Primary) (ch : List Message) (a b : List Sym) (o : Operand) (cs : List Message) (c : List Sym) (bs : List Message)
@@ -109,9 +110,13 @@ further_have r first s p ch a b o cs k = (a, [], g.none, subst (λ x. InnerGoes 
 -- the binary message that an operator begins
 binary_back : {s : Sym} {t : List ℕ} {at : ℕ} → IsOp s t at → (v : Bool) (outer : Outer) (p : Primary) (ch : List Message) (a b : List Sym) (o : Operand) (cs : List Message)
     → WantGoes (Right outer p ch (selector t at)) a b o cs → (c : List Sym) × (bs : List Message) × g.Binaries (s ∷ a) c bs × OuterGoes v outer p (ch ++ bs) c b o cs
-binary_back {t = t} {at = at} i v outer p ch a b o cs (c, q, w, x, (d, us, u, (e, bs, f, m, k))) =
-    (e, message t at (operand q us ∷ []) ∷ bs, g.more_binaries i x u f m, outer_fine v outer p (ch ++ message t at (operand q us ∷ []) ∷ bs) e b o cs (fine_mid v ch (message t at (operand q us ∷ [])) bs)
-    (subst (λ v. OuterGoes false outer p v e b o cs) (append_assoc ch (message t at (operand q us ∷ []) ∷ []) bs) k))
+binary_back {t = t} {at = at} i v outer p ch a b o cs (c, q, w, x, (d, us, u, (e, bs, f, m, k))) = (
+  e,
+  message t at (operand q us ∷ []) ∷ bs,
+  g.more_binaries i x u f m,
+  outer_fine v outer p (ch ++ message t at (operand q us ∷ []) ∷ bs) e b o cs (fine_mid v ch (message t at (operand q us ∷ [])) bs)
+      (subst (λ v. OuterGoes false outer p v e b o cs) (append_assoc ch (message t at (operand q us ∷ []) ∷ []) bs) k),
+)
 
 -- the arguments that follow a keyword
 arguments_back : (left : Left) (s : Selector) (os : List Operand) (a b : List Sym) (o : Operand) (cs : List Message) → WantGoes (Plain (Argument left s os)) a b o cs

@@ -1,5 +1,5 @@
 -- The machine that says of each token whether it can stand, and gathers the tree.
-use Rattle.std.specs.Prelude.{◌≡◌, ℕ, ◌^◌, List, [], ◌∷◌, ◌++◌, Bool, true, false, if◌then◌else◌, nat_lt, nat_le, ◌+◌, ◌==◌, length, Option, Some, None, option_and_then}
+use Rattle.std.specs.Prelude.{ℕ, ◌^◌, List, [], ◌∷◌, ◌++◌, true, false, if◌then◌else◌, nat_lt, nat_le, ◌+◌, ◌==◌, length, Option, Some, None, option_and_then}
 use Rattle.st_tree.specs.declared.tree.Name.{Name}
 use Rattle.st_tree.specs.declared.tree.Literal.{Literal}
 use Rattle.st_tree.specs.declared.tree.Literal.TheVariants as literal

@@ -38,26 +38,35 @@ abbrev pub aside : Sym → Sym
 aside (Num n at) = Num 0 at
 aside s = s
 
--- The symbols may stand, the last too.
+-- The symbols may stand, the last too, and none is the 201st opening.
 pub record Stands (p : Production) (a : List Sym) : Type 0 where
   pub fits : CanStand p a
   pub shallow : Shallow a
 
--- Why a symbol behind others is a fault: it can't stand, whatever its value; its value is out of range; it is the 201st opening that is open.
+-- Why a symbol behind others is a fault.
 pub data Spoils : Production → List Sym → Sym → Reason → Type 0 where
+  -- it can't stand, whatever its value
   out_of_place : {p : Production} {a : List Sym} {s : Sym} → CannotStand p (a ++ aside s ∷ []) → Spoils p a s reason.Syntax
-  out_of_range : {p : Production} {a : List Sym} {s : Sym} → CanStand p (a ++ aside s ∷ []) → CannotStand p (a ++ s ∷ []) → Spoils p a s reason.IntegerTooLarge
-  too_deep : {p : Production} {a : List Sym} {s : Sym} → CanStand p (a ++ s ∷ []) → depth 0 (a ++ s ∷ []) ≡ 201 → Spoils p a s reason.TooDeep
+  -- it may stand, and its value is out of range there: from 2^127 on without a sign
+  out_of_range : {p : Production} {a : List Sym} {s : Sym}
+      → CanStand p (a ++ aside s ∷ []) → CannotStand p (a ++ s ∷ []) → Spoils p a s reason.IntegerTooLarge
+  -- it may stand, and is the 201st opening that is open
+  too_deep : {p : Production} {a : List Sym} {s : Sym}
+      → CanStand p (a ++ s ∷ []) → depth 0 (a ++ s ∷ []) ≡ 201 → Spoils p a s reason.TooDeep
 
 -- The first fault of a text with these tokens and this lexical fault: its byte and its reason.
 pub data IsFault : Production → List ℕ → List Token → Option LexFault → ℕ → Reason → Type 0 where
-  -- a token is the first that is one
-  at_token : {p : Production} {text : List ℕ} {tokens : List Token} {lexical : Option LexFault} {why : Reason} → (i : ℕ) → (t : Token) → slice_get tokens i ≡ Some t
-      → Stands p (take i (syms text tokens)) → Spoils p (take i (syms text tokens)) (sym_of text t) why → IsFault p text tokens lexical t.start why
+  -- a token is the first that is at fault
+  at_token : {p : Production} {text : List ℕ} {tokens : List Token} {lexical : Option LexFault} {why : Reason}
+      → (i : ℕ) → (t : Token) → slice_get tokens i ≡ Some t → Stands p (take i (syms text tokens))
+      → Spoils p (take i (syms text tokens)) (sym_of text t) why → IsFault p text tokens lexical t.start why
   -- all tokens may stand, and the next is spoiled
-  lexical_fault : {p : Production} {text : List ℕ} {tokens : List Token} {fault : LexFault} → Stands p (syms text tokens) → IsFault p text tokens (Some fault) fault.byte fault.reason
+  lexical_fault : {p : Production} {text : List ℕ} {tokens : List Token} {fault : LexFault}
+      → Stands p (syms text tokens) → IsFault p text tokens (Some fault) fault.byte fault.reason
   -- all tokens may stand, and more are needed
-  unfinished : {p : Production} {text : List ℕ} {tokens : List Token} → Stands p (syms text tokens) → ((tree : Tree) → Derives p (syms text tokens) tree → ⊥) → IsFault p text tokens None (length text) reason.Syntax
+  unfinished : {p : Production} {text : List ℕ} {tokens : List Token}
+      → Stands p (syms text tokens) → ((tree : Tree) → Derives p (syms text tokens) tree → ⊥)
+      → IsFault p text tokens None (length text) reason.Syntax
 
 -- The tree of a text with these tokens, where it has no fault.
 pub record IsTree (p : Production) (text : List ℕ) (tokens : List Token) (lexical : Option LexFault) (tree : Tree) : Type 0 where

@@ -1,5 +1,5 @@
 -- Trees, built from their parts.
-use Rattle.std.specs.Prelude.{ℕ, List, [], Bool, true, false, pos, ◌-ℤ◌}
+use Rattle.std.specs.Prelude.{ℕ, List, Bool, true, false, pos, ◌-ℤ◌}
 use Rattle.st_tree.specs.declared.tree.Name.{Name}
 use Rattle.st_tree.specs.declared.tree.Literal.{Literal}
 use Rattle.st_tree.specs.declared.tree.Literal.TheVariants as literal
@@ -7,7 +7,7 @@ use Rattle.st_tree.specs.declared.tree.Primary.{Primary}
 use Rattle.st_tree.specs.declared.tree.Primary.TheVariants as primary
 use Rattle.st_tree.specs.declared.tree.Statement.{Statement}
 use Rattle.st_tree.specs.declared.tree.Statement.TheVariants as statement
-use Rattle.st_tree.specs.declared.tree.Block.{Block, roll-Block}
+use Rattle.st_tree.specs.declared.tree.Block.{roll-Block}
 use Rattle.st_tree.specs.declared.tree.Body.{Body, roll-Body}
 use Rattle.st_tree.specs.declared.tree.Expr.{Expr, roll-Expr}
 use Rattle.st_tree.specs.declared.tree.Message.{Message, roll-Message}
