@@ -11,4 +11,4 @@ pub use faults::{Limits, OutOfMemory, Place, Reason};
 pub use memory::{MemorySink, MemorySource};
 pub use streams::{Failed, Sink, Source, put_all};
 pub use text::Text;
-pub use tokens::{Token, TokenKind};
+pub use tokens::{LexFault, Token, TokenKind};

@@ -1,0 +1,3 @@
+pub use Rattle.st_base.specs.TokenBytes
+pub use Rattle.st_base.specs.Lexed
+pub mod Seen

@@ -1,0 +1,12 @@
+// The tokens of a method, an initializer or an interchange element (ANSI NCITS 319, 3.5): a text goes in, the tokens
+// before its first lexical fault come out, and that fault.
+#![tactic(auto)]
+
+mod bytes;
+mod front;
+mod numbers;
+mod scan;
+mod spans;
+
+pub use scan::{Lexed, tokens};
+pub use st_base::{LexFault, Token, TokenKind};
