@@ -1,9 +1,8 @@
 -- Small texts and their tokens, computed.
-use Rattle.std.proofs.Common.{◌≡◌, ℕ, ◌^◌, List, [], ◌∷◌, Option, None, Some, refl, codes}
+use Rattle.std.proofs.Common.{◌≡◌, ℕ, ◌^◌, List, [], ◌∷◌, None, Some, refl, codes}
 use Rattle.st_base.specs.declared.tokens.Token.{Token}
-use Rattle.st_base.specs.declared.tokens.LexFault.{LexFault}
 use Rattle.st_base.specs.declared.tokens.TokenKind.{TokenKind}
-use Rattle.st_base.specs.declared.tokens.TokenKind.TheVariants.{Identifier, Keyword, Operator, Integer, Character, Str, Symbol, QuotedSymbol, ArrayOpen, ParenOpen, ParenClose, BlockOpen, BlockClose, Colon, Assign, Caret, Period, Semicolon}
+use Rattle.st_base.specs.declared.tokens.TokenKind.TheVariants.{Identifier, Keyword, Operator, Integer, Character, Str, Symbol, QuotedSymbol, ArrayOpen, ParenClose, BlockOpen, BlockClose, Colon, Assign, Caret, Period, Semicolon}
 use Rattle.st_base.specs.declared.faults.Reason.{Reason}
 use Rattle.st_base.specs.declared.faults.Reason.TheVariants.{BadCharacter, OpenString, OpenComment, BadRadix, IntegerTooLarge, FloatOutside}
 use Rattle.st_base.specs.Lexed.{LexedText, lexed_of, front_of, word_front, operator_len, number_front, radix_front, integer_at, value_of, selector_len, symbol_front, sign_front}

@@ -1,1 +1,5 @@
 mod Examples
+pub mod SpanLemmas
+pub mod NumberLemmas
+pub mod Fronts
+pub mod Scanning

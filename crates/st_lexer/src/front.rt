@@ -17,6 +17,7 @@ pub enum Front {
 }
 
 // An identifier or a keyword, where a letter comes first.
+#[tactic(auto, unfolding(st_base::specs::Lexed::word_front))]
 fn word_front(bytes: &[u8]) -> Front
     ensures { seen result ≡ word_front bytes.now }
 {
@@ -29,6 +30,7 @@ fn word_front(bytes: &[u8]) -> Front
 }
 
 // A symbol, a quoted symbol or the opening of an array, behind its `#`.
+#[tactic(auto, unfolding(st_base::specs::Lexed::symbol_front))]
 fn symbol_front(after: &[u8]) -> Front
     ensures { seen result ≡ symbol_front after.now }
 {
@@ -51,6 +53,7 @@ fn symbol_front(after: &[u8]) -> Front
 }
 
 // A sign of one or two bytes, or white space.
+#[tactic(auto, unfolding(st_base::specs::Lexed::sign_front))]
 fn sign_front(first: u8, after: &[u8]) -> Front
     ensures { seen result ≡ sign_front first after.now }
 {
@@ -70,6 +73,7 @@ fn sign_front(first: u8, after: &[u8]) -> Front
 }
 
 /// What stands at the front of the bytes.
+#[tactic(auto, unfolding(st_base::specs::Lexed::front_of))]
 pub fn front_of(bytes: &[u8]) -> Front
     requires { 0 < length bytes.now }
     ensures { seen result ≡ front_of (slice_index bytes.now 0) (drop 1 bytes.now) }

@@ -1,9 +1,9 @@
 // Integers, with or without a radix.
-ghost use Rattle.std.specs.Prelude.{◌≡◌, ◌≤◌, ◌<◌, ◌+◌, ◌^◌, nat_le, nat_lt, length, if◌then◌else◌};
+ghost use Rattle.std.specs.Prelude.{◌≡◌, ◌<◌, ◌*◌, ◌+◌, ◌^◌, ℕ, nat_lt, length, IsTrue};
 ghost use Rattle.std.specs.List.{list_all};
 ghost use Rattle.st_base.specs.TokenBytes.{figure_value};
 ghost use Rattle.st_base.specs.Lexed.{value_of, integer_at, is_radix_number, radix_front, number_front};
-ghost use Rattle.st_lexer.specs.Seen.{seen};
+ghost use Rattle.st_lexer.specs.Seen.{seen, held};
 
 use crate::bytes::{begins_float, begins_with, figure_value};
 use crate::front::Front;
@@ -13,27 +13,32 @@ use st_base::{Reason, TokenKind};
 /// The greatest value of a token.
 const GREATEST: u128 = 1 << 127;
 
+// A value with one more digit, if it is at most 2^127.
+fn with_digit(value: u128, radix: u128, byte: u8) -> Option<u128>
+    ensures { result ≡ held (value * radix + figure_value byte) }
+{
+    let next = value
+        .checked_mul(radix)?
+        .checked_add(figure_value(byte) as u128)?;
+    if next <= GREATEST { Some(next) } else { None }
+}
+
 // The value of digits, if it is at most 2^127.
 fn value_of(radix: u128, digits: &[u8]) -> Option<u128>
-    requires { (0 < radix) × (radix ≤ 36) }
-    ensures { result ≡ (if nat_le (value_of radix digits.now) (2 ^ 127) then Some (value_of radix digits.now) else None) }
+    requires { 0 < radix }
+    ensures { result ≡ held (value_of radix digits.now) }
 {
-    let mut value: u128 = 0;
+    let mut value = 0;
     for byte in digits {
-        let next = value
-            .checked_mul(radix)?
-            .checked_add(figure_value(*byte) as u128)?;
-        if next > GREATEST {
-            return None;
-        }
-        value = next;
+        value = with_digit(value, radix, *byte)?;
     }
     Some(value)
 }
 
-// An integer of n bytes, by the value of its digits and what follows it.
+// An integer of n bytes, by the value of its digits and what follows them.
+#[tactic(auto, unfolding(st_base::specs::Lexed::integer_at))]
 fn integer_at(value: Option<u128>, n: usize, after: &[u8]) -> Front
-    ensures { (exact : _) → value ≡ (if nat_le exact (2 ^ 127) then Some exact else None) → seen result ≡ integer_at exact n after.now }
+    ensures { (exact : ℕ) → value ≡ held exact → seen result ≡ integer_at exact n after.now }
 {
     if begins_float(after) {
         return Front::Spoiled(Reason::FloatOutside, 0);
@@ -44,22 +49,36 @@ fn integer_at(value: Option<u128>, n: usize, after: &[u8]) -> Front
     }
 }
 
-// Whether each digit is below the radix, of which there is at least one.
-fn are_figures(radix: u128, figures: &[u8]) -> bool
-    ensures { result ≡ (nat_lt 0 (length figures.now) && list_all (λ c. nat_lt (figure_value c) radix) figures.now) }
+// Whether each digit is below the radix.
+fn are_below(radix: u128, figures: &[u8]) -> bool
+    ensures { result ≡ list_all (λ c. nat_lt (figure_value c) radix) figures.now }
 {
-    !figures.is_empty()
-        && figures
-            .iter()
-            .all(|byte| (figure_value(*byte) as u128) < radix)
+    figures
+        .iter()
+        .all(|byte| (figure_value(*byte) as u128) < radix)
 }
 
-// A number whose radix is read, by the radix, the n bytes before its digits, and what stands behind these.
-fn radix_front(radix: Option<u128>, n: usize, after: &[u8]) -> Front {
+// A radix is from 2 to 36, and its digits are there and below it.
+fn is_radix_number(radix: u128, figures: &[u8]) -> bool
+    ensures same { result ≡ is_radix_number radix figures.now }
+    ensures some { IsTrue result → 0 < radix }
+{
+    if radix < 2 || radix > 36 || figures.is_empty() {
+        return false;
+    }
+    are_below(radix, figures)
+}
+
+// A number behind its radix and `r`, which are n bytes.
+#[tactic(auto, unfolding(st_base::specs::Lexed::radix_front))]
+fn radix_front(radix: Option<u128>, n: usize, after: &[u8]) -> Front
+    requires { n + length after.now < 2 ^ 64 }
+    ensures { (exact : ℕ) → radix ≡ held exact → seen result ≡ radix_front exact n after.now }
+{
     let m = figures_len(after);
     let figures = &after[..m];
     match radix {
-        Some(radix) if 2 <= radix && radix <= 36 && are_figures(radix, figures) => {
+        Some(radix) if is_radix_number(radix, figures) => {
             integer_at(value_of(radix, figures), n + m, &after[m..])
         }
         _ => Front::Spoiled(Reason::BadRadix, 0),
@@ -67,6 +86,7 @@ fn radix_front(radix: Option<u128>, n: usize, after: &[u8]) -> Front {
 }
 
 /// A number at the front of bytes that begin with a digit.
+#[tactic(auto, unfolding(st_base::specs::Lexed::number_front))]
 pub fn number_front(bytes: &[u8]) -> Front
     ensures { seen result ≡ number_front bytes.now }
 {

@@ -47,6 +47,7 @@ pub fn operators_len(bytes: &[u8]) -> usize
 }
 
 /// An operator: a run of operator characters, cut before a `-` that is not first in it and is directly before a digit.
+#[tactic(auto, unfolding(st_base::specs::Lexed::operator_len))]
 pub fn operator_len(bytes: &[u8]) -> usize
     ensures { result ≡ operator_len bytes.now }
 {
@@ -100,13 +101,15 @@ fn keywords_len(bytes: &[u8]) -> Option<usize>
     let mut whole = None;
     let mut begun = true;
     for (i, byte) in bytes.iter().enumerate() {
-        if begun && !is_word_byte(*byte) {
-            if !begins_colon(&bytes[i..]) {
-                return whole;
+        if begun {
+            if !is_word_byte(*byte) {
+                if !begins_colon(&bytes[i..]) {
+                    return whole;
+                }
+                whole = Some(i + 1);
+                begun = false;
             }
-            whole = Some(i + 1);
-            begun = false;
-        } else if !begun {
+        } else {
             if !is_letter(*byte) {
                 return whole;
             }
@@ -117,6 +120,7 @@ fn keywords_len(bytes: &[u8]) -> Option<usize>
 }
 
 /// One or more keywords without a gap, else an identifier, where a letter comes first.
+#[tactic(auto, unfolding(st_base::specs::Lexed::selector_len))]
 pub fn selector_len(bytes: &[u8]) -> usize
     ensures len { result ≡ selector_len bytes.now }
     ensures within { result ≤ length bytes.now }
