@@ -7,6 +7,8 @@ mod front;
 mod numbers;
 mod scan;
 mod spans;
+#[cfg(test)]
+mod tests;
 
 pub use scan::{Lexed, tokens};
 pub use st_base::{LexFault, Token, TokenKind};
