@@ -3,3 +3,9 @@ pub mod SpanLemmas
 pub mod NumberLemmas
 pub mod Fronts
 pub mod Scanning
+pub mod Runs
+pub mod Quotes
+pub mod Selectors
+pub mod Sound
+pub mod Cover
+pub mod LexesLaw
