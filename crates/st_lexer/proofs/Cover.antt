@@ -38,9 +38,9 @@ or_case false b left right is = right is
 -- a byte of a class that another is not of
 pub differs : (p : ℕ → Bool) (c n : ℕ) → p c ≡ true → p n ≡ false → (c == n) ≡ false
 differs p c n is off = elim (eqb_tells c n) [
-    | inl same ↦ absurd (true≢false (sym is ∙ ap p same.1 ∙ off))
-    | inr other ↦ other.0
-  ]
+  | inl same ↦ absurd (true≢false (sym is ∙ ap p same.1 ∙ off))
+  | inr other ↦ other.0
+]
 
 -- an operator character is no letter and no digit
 abbrev pub IsPlain : ℕ → Type 0
@@ -52,7 +52,7 @@ leaf c n plain is = subst IsPlain (sym (same_byte c n is)) plain
 pub operator_plain : (c : ℕ) → is_operator_byte c ≡ true → IsPlain c
 operator_plain c is =
     or_case _ (c == 126) (or_case _ (c == 124) (or_case _ (c == 92) (or_case _ (c == 64) (or_case _ (c == 63) (or_case _ (c == 62) (or_case _ (c == 61) (or_case _ (c == 60) (or_case _ (c == 47) (or_case _ (c == 45) (or_case _ (c == 44) (or_case _ (c == 43) (or_case _ (c == 42) (or_case _ (c == 38) (or_case (c == 33) (c == 37)
-      (leaf c 33 (refl, refl)) (leaf c 37 (refl, refl))) (leaf c 38 (refl, refl))) (leaf c 42 (refl, refl))) (leaf c 43 (refl, refl))) (leaf c 44 (refl, refl))) (leaf c 45 (refl, refl))) (leaf c 47 (refl, refl))) (leaf c 60 (refl, refl))) (leaf c 61 (refl, refl))) (leaf c 62 (refl, refl))) (leaf c 63 (refl, refl))) (leaf c 64 (refl, refl))) (leaf c 92 (refl, refl))) (leaf c 124 (refl, refl))) (leaf c 126 (refl, refl)) is
+    (leaf c 33 (refl, refl)) (leaf c 37 (refl, refl))) (leaf c 38 (refl, refl))) (leaf c 42 (refl, refl))) (leaf c 43 (refl, refl))) (leaf c 44 (refl, refl))) (leaf c 45 (refl, refl))) (leaf c 47 (refl, refl))) (leaf c 60 (refl, refl))) (leaf c 61 (refl, refl))) (leaf c 62 (refl, refl))) (leaf c 63 (refl, refl))) (leaf c 64 (refl, refl))) (leaf c 92 (refl, refl))) (leaf c 124 (refl, refl))) (leaf c 126 (refl, refl)) is
 
 at_most : (a b : ℕ) → nat_le a b ≡ true → a ≤ b
 at_most a b is = grind (arith, is)
@@ -92,12 +92,13 @@ identifier_cover (c ∷ cs) v is =
     let n = prefix_len is_word_byte (c ∷ (cs ++ v)) in
     let low : length (c ∷ cs) ≤ n = prefix_len-covers is_word_byte (c ∷ cs) v (identifier_all (c ∷ cs) is) in
     subst (Covers kind.Identifier (length (c ∷ cs))) (sym (front-letter c (cs ++ v) (and_left (is_letter c) (list_all is_word_byte cs) is)))
-      (either kind.Identifier (length (c ∷ cs)) (begins_colon (drop n (c ∷ (cs ++ v)))) (Lexeme kind.Keyword (n + 1)) (Lexeme kind.Identifier n)
-        (λ colon. (longer (length (c ∷ cs)) n low, λ e. absurd (never (length (c ∷ cs)) n low e)))
-        (λ off. (low, λ e. refl)))
+    (either kind.Identifier (length (c ∷ cs)) (begins_colon (drop n (c ∷ (cs ++ v)))) (Lexeme kind.Keyword (n + 1)) (Lexeme kind.Identifier n)
+    (λ colon. (longer (length (c ∷ cs)) n low, λ e. absurd (never (length (c ∷ cs)) n low e)))
+    (λ off. (low, λ e. refl)))
   where
     longer : (len n : ℕ) → len ≤ n → len ≤ n + 1
     longer len n low = omega arith
+
     never : (len n : ℕ) → len ≤ n → len ≡ n + 1 → ⊥
     never len n low e = omega arith
 
@@ -166,7 +167,7 @@ operator_cover (c ∷ cs) v is cut =
     let b = get_or (c ∷ (cs ++ v)) (n - 1) 0 == 45 in
     let d = begins is_digit (drop n (c ∷ (cs ++ v))) in
     subst (Covers kind.Operator (length (c ∷ cs))) (sym (front-operator c (cs ++ v) (and_left (is_operator_byte c) (list_all is_operator_byte cs) is)))
-      (cut_cover (a && b && d) (length (c ∷ cs)) n low (λ all same. not_cut c cs v n cut same (and_left a b (and_left (a && b) d all)) (and_right a b (and_left (a && b) d all)) (and_right (a && b) d all)), λ e. refl)
+    (cut_cover (a && b && d) (length (c ∷ cs)) n low (λ all same. not_cut c cs v n cut same (and_left a b (and_left (a && b) d all)) (and_right a b (and_left (a && b) d all)) (and_right (a && b) d all)), λ e. refl)
 
 -- numbers
 integer_cover : (value n : ℕ) (after : List ℕ) → Covers (kind.Integer value) n (integer_at value n after)
@@ -287,7 +288,7 @@ quoted_form : (u v string : List ℕ) → u ≡ 35 ∷ string → IsString strin
 quoted_form u v string e (s, f, inner) =
     let whole : (s ++ 39 ∷ []) ++ v ≡ s ++ 39 ∷ v = append_assoc s (39 ∷ []) v in
     named kind.QuotedSymbol u (35 ∷ 39 ∷ s ++ 39 ∷ []) v (e ∙ ap (λ (xs : List ℕ). 35 ∷ xs) f)
-      (subst (Covers kind.QuotedSymbol (length (35 ∷ 39 ∷ s ++ 39 ∷ []))) (sym (front-hash (39 ∷ (s ++ 39 ∷ []) ++ v) ∙ symbol-quote ((s ++ 39 ∷ []) ++ v))) (quoted_cover (string_len false ((s ++ 39 ∷ []) ++ v)) s v (ap (string_len false) (sym whole)) inner))
+    (subst (Covers kind.QuotedSymbol (length (35 ∷ 39 ∷ s ++ 39 ∷ []))) (sym (front-hash (39 ∷ (s ++ 39 ∷ []) ++ v) ∙ symbol-quote ((s ++ 39 ∷ []) ++ v))) (quoted_cover (string_len false ((s ++ 39 ∷ []) ++ v)) s v (ap (string_len false) (sym whole)) inner))
 
 signed : (k : TokenKind) (len : ℕ) → Covers k len (Lexeme k len)
 signed k len = (omega arith, λ e. refl)

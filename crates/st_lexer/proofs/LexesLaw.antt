@@ -102,7 +102,7 @@ too_large-front value n after off high = let past : nat_le value (2 ^ 127) ≡ f
     over a b high = grind (arith, high)
 
 -- a spoiled token is what is computed
-spoiled-front : {r : Reason} {n : ℕ} {bytes : List ℕ} → Spoils r n bytes → front_at bytes ≡ Spoiled r n
+pub spoiled-front : {r : Reason} {n : ℕ} {bytes : List ℕ} → Spoils r n bytes → front_at bytes ≡ Spoiled r n
 spoiled-front (no_token {c = c} {cs = cs} off) = no_token-front c cs off
 spoiled-front (no_symbol {cs = cs} off) = front-hash cs ∙ no_symbol-front cs off
 spoiled-front no_character = no_character-front
@@ -122,7 +122,7 @@ sound_at : (bytes : List ℕ) → 0 < length bytes → IsSound bytes (front_at b
 sound_at [] some = absurd (omega arith)
 sound_at (b ∷ bs) some = front_sound b bs
 
-fits_at : (bytes : List ℕ) → 0 < length bytes → FrontFits (length bytes) (front_at bytes)
+pub fits_at : (bytes : List ℕ) → 0 < length bytes → FrontFits (length bytes) (front_at bytes)
 fits_at [] some = absurd (omega arith)
 fits_at (b ∷ bs) some = front_fits b bs
 
@@ -137,6 +137,7 @@ token_of k t after (Lexeme other n) is front sound fits cover =
   where
     equal : (a b : ℕ) → a ≤ b → b ≤ a → a ≡ b
     equal a b low high = omega arith
+
     below : (a b c : ℕ) → a ≡ b → a ≤ c → b ≤ c
     below a b c e low = omega arith
 token_of k t after (Gap n) is front sound fits cover = absurd cover
@@ -147,7 +148,11 @@ form_some k [] [] cover = absurd cover
 form_some k [] (c ∷ cs) cover = omega arith
 form_some k (c ∷ cs) after cover = omega arith
 
-token-front : (k : TokenKind) (t after : List ℕ) → IsToken k t after → front_at (t ++ after) ≡ Lexeme k (length t)
+-- a token's bytes, and those behind them, are some
+pub some_of : (k : TokenKind) (t after : List ℕ) → IsToken k t after → 0 < length (t ++ after)
+some_of k t after is = form_some k t after (cover k t after is.form)
+
+pub token-front : (k : TokenKind) (t after : List ℕ) → IsToken k t after → front_at (t ++ after) ≡ Lexeme k (length t)
 token-front k t after is =
     let covers = cover k t after is.form in
     let some = form_some k t after covers in
@@ -167,7 +172,7 @@ at_gap bytes at n some is =
 at_spoiled : (bytes : List ℕ) (at n : ℕ) (r : Reason) → 0 < length bytes → front_at bytes ≡ Spoiled r n → lexed_at 0 at bytes ≡ record { tokens = []; fault = Some (record { byte = at + n; reason = r }) }
 at_spoiled bytes at n r some is = lexed_at-spoiled bytes at n r some (sym is ∙ at_front bytes some)
 
-spoiled_some : {r : Reason} {n : ℕ} (bytes : List ℕ) → front_at bytes ≡ Spoiled r n → 0 < length bytes
+pub spoiled_some : {r : Reason} {n : ℕ} (bytes : List ℕ) → front_at bytes ≡ Spoiled r n → 0 < length bytes
 spoiled_some [] is = absurd (cc)
 spoiled_some (c ∷ cs) is = omega arith
 
@@ -209,13 +214,14 @@ token_is bytes k n some is =
     record {
       form = subst (IsSound bytes) is (sound_at bytes some);
       longest = λ other u v e form.
-        let covers : Covers other (length u) (Lexeme k n) = subst (Covers other (length u)) (ap front_at (e ∙ whole) ∙ is) (cover other u v form) in
-        at_most (length u) n (length (take n bytes)) covers.0 len;
+          let covers : Covers other (length u) (Lexeme k n) = subst (Covers other (length u)) (ap front_at (e ∙ whole) ∙ is) (cover other u v form) in
+          at_most (length u) n (length (take n bytes)) covers.0 len;
       sound = λ r m spoils. never k n r m (sym is ∙ ap front_at (sym whole) ∙ spoiled-front spoils);
     }
   where
     at_most : (a b c : ℕ) → a ≤ b → c ≡ b → a ≤ c
     at_most a b c low e = omega arith
+
     never : (k : TokenKind) (n : ℕ) (r : Reason) (m : ℕ) → Lexeme k n ≡ Spoiled r m → ⊥
     never k n r m is = cc
 
@@ -245,7 +251,7 @@ step_computed at bytes (Lexeme k n) some is next =
     let l = lexed_at 0 (at + n) (drop n bytes) in
     let rest : LexesFrom (at + length (take n bytes)) (drop n bytes) l.tokens l.fault = subst (λ m. LexesFrom (at + m) (drop n bytes) l.tokens l.fault) (sym len) (next n fits.0) in
     by_equation at bytes (behind_tokens (record { kind = k; start = at; end = at + n } ∷ []) l) (at_lexeme bytes at n k some is)
-      (subst (λ m. LexesFrom at bytes (record { kind = k; start = at; end = at + m } ∷ l.tokens) l.fault) len (token k (take n bytes) (drop n bytes) (sym (take-append-drop n bytes)) (token_is bytes k n some is) rest))
+    (subst (λ m. LexesFrom at bytes (record { kind = k; start = at; end = at + m } ∷ l.tokens) l.fault) len (token k (take n bytes) (drop n bytes) (sym (take-append-drop n bytes)) (token_is bytes k n some is) rest))
 step_computed at bytes (Gap n) some is next =
     let fits = subst (FrontFits (length bytes)) is (fits_at bytes some) in
     let l = lexed_at 0 (at + n) (drop n bytes) in

@@ -9,3 +9,4 @@ pub mod Selectors
 pub mod Sound
 pub mod Cover
 pub mod LexesLaw
+pub mod Order

@@ -31,7 +31,7 @@ string-closes c n cs quote is = subst (λ k. StringAt k (c ∷ cs)) (sym is) (su
 string-doubled : (c d m n : ℕ) (ds : List ℕ) → c ≡ 39 → d ≡ 39 → n ≡ suc (suc m) → StringAt m ds → StringAt n (c ∷ d ∷ ds)
 string-doubled c d m n ds quote second is string =
     subst (λ k. StringAt k (c ∷ d ∷ ds)) (sym is) (subst (λ x. StringAt (suc (suc m)) (x ∷ d ∷ ds)) (sym quote) (subst (λ x. StringAt (suc (suc m)) (39 ∷ x ∷ ds)) (sym second)
-      (39 ∷ 39 ∷ string.0, ap (λ (xs : List ℕ). 39 ∷ 39 ∷ xs) string.1, two_quotes string.2)))
+    (39 ∷ 39 ∷ string.0, ap (λ (xs : List ℕ). 39 ∷ 39 ∷ xs) string.1, two_quotes string.2)))
 
 second_quote : (d : ℕ) (ds : List ℕ) (o : Option ℕ) → (d == 39) ≡ true → string_len true (d ∷ ds) ≡ o → option_map (λ n. n + 1) (string_len false ds) ≡ o
 second_quote d ds o second is = rw second at is
@@ -42,28 +42,28 @@ no_second d ds o other is = rw other at is
 pub string_len-some : (bs : List ℕ) (n : ℕ) → string_len false bs ≡ Some n → StringAt n bs
 string_len-some [] n is = absurd (cc)
 string_len-some (c ∷ []) n is = elim (eqb_tells c 39) [
-    | inl same ↦ let one = plus_one-some (Some 0) n (rw same.0 at is) in let e : n ≡ 1 = (let z : 0 ≡ one.0 = (cc) in omega (arith, one.2)) in string-closes c n [] same.1 e
-    | inr other ↦ absurd (let off : option_map (λ n. n + 1) (string_len (c == 39) []) ≡ Some n = is in let none : option_map (λ n. n + 1) (string_len false []) ≡ Some n = rw other.0 at off in (cc))
-  ]
+  | inl same ↦ let one = plus_one-some (Some 0) n (rw same.0 at is) in let e : n ≡ 1 = (let z : 0 ≡ one.0 = (cc) in omega (arith, one.2)) in string-closes c n [] same.1 e
+  | inr other ↦ absurd (let off : option_map (λ n. n + 1) (string_len (c == 39) []) ≡ Some n = is in let none : option_map (λ n. n + 1) (string_len false []) ≡ Some n = rw other.0 at off in (cc))
+]
 string_len-some (c ∷ d ∷ ds) n is = elim (eqb_tells c 39) [
-    | inl same ↦
-        let here : option_map (λ n. n + 1) (string_len true (d ∷ ds)) ≡ Some n = rw same.0 at is in
-        let one = plus_one-some (string_len true (d ∷ ds)) n here in
-        elim (eqb_tells d 39) [
-          | inl second ↦
-              let there : option_map (λ n. n + 1) (string_len false ds) ≡ Some one.0 = second_quote d ds (Some one.0) second.0 one.1 in
-              let two = plus_one-some (string_len false ds) one.0 there in
-              string-doubled c d two.0 n ds same.1 second.1 (one.2 ∙ ap suc two.2) (string_len-some ds two.0 two.1)
-          | inr other ↦
-              let there : Some 0 ≡ Some one.0 = no_second d ds (Some one.0) other.0 one.1 in
-              let z : 0 ≡ one.0 = (cc) in
-              string-closes c n (d ∷ ds) same.1 (one.2 ∙ ap suc (sym z))
-        ]
-    | inr other ↦
-        let here : option_map (λ n. n + 1) (string_len false (d ∷ ds)) ≡ Some n = rw other.0 at is in
-        let one = plus_one-some (string_len false (d ∷ ds)) n here in
-        string-other c one.0 n (d ∷ ds) other.1 one.2 (string_len-some (d ∷ ds) one.0 one.1)
-  ]
+  | inl same ↦
+      let here : option_map (λ n. n + 1) (string_len true (d ∷ ds)) ≡ Some n = rw same.0 at is in
+      let one = plus_one-some (string_len true (d ∷ ds)) n here in
+      elim (eqb_tells d 39) [
+        | inl second ↦
+            let there : option_map (λ n. n + 1) (string_len false ds) ≡ Some one.0 = second_quote d ds (Some one.0) second.0 one.1 in
+            let two = plus_one-some (string_len false ds) one.0 there in
+            string-doubled c d two.0 n ds same.1 second.1 (one.2 ∙ ap suc two.2) (string_len-some ds two.0 two.1)
+        | inr other ↦
+            let there : Some 0 ≡ Some one.0 = no_second d ds (Some one.0) other.0 one.1 in
+            let z : 0 ≡ one.0 = (cc) in
+            string-closes c n (d ∷ ds) same.1 (one.2 ∙ ap suc (sym z))
+      ]
+  | inr other ↦
+      let here : option_map (λ n. n + 1) (string_len false (d ∷ ds)) ≡ Some n = rw other.0 at is in
+      let one = plus_one-some (string_len false (d ∷ ds)) n here in
+      string-other c one.0 n (d ∷ ds) other.1 one.2 (string_len-some (d ∷ ds) one.0 one.1)
+]
 
 inside-doubled : (c d : ℕ) (ds : List ℕ) → c ≡ 39 → d ≡ 39 → Inside ds → Inside (c ∷ d ∷ ds)
 inside-doubled c d ds quote second inner = subst (λ x. Inside (x ∷ d ∷ ds)) (sym quote) (subst (λ x. Inside (39 ∷ x ∷ ds)) (sym second) (two_quotes inner))
@@ -72,23 +72,23 @@ inside-doubled c d ds quote second inner = subst (λ x. Inside (x ∷ d ∷ ds))
 pub string_len-none : (bs : List ℕ) → string_len false bs ≡ None → Inside bs
 string_len-none [] is = no_byte
 string_len-none (c ∷ []) is = elim (eqb_tells c 39) [
-    | inl same ↦ absurd (let here : option_map (λ n. n + 1) (string_len true []) ≡ None = rw same.0 at is in (cc))
-    | inr other ↦ other_byte other.1 no_byte
-  ]
+  | inl same ↦ absurd (let here : option_map (λ n. n + 1) (string_len true []) ≡ None = rw same.0 at is in (cc))
+  | inr other ↦ other_byte other.1 no_byte
+]
 string_len-none (c ∷ d ∷ ds) is = elim (eqb_tells c 39) [
-    | inl same ↦
-        let here : option_map (λ n. n + 1) (string_len true (d ∷ ds)) ≡ None = rw same.0 at is in
-        let one : string_len true (d ∷ ds) ≡ None = plus_one-none _ here in
-        elim (eqb_tells d 39) [
-          | inl second ↦
-              let there : option_map (λ n. n + 1) (string_len false ds) ≡ None = second_quote d ds None second.0 one in
-              inside-doubled c d ds same.1 second.1 (string_len-none ds (plus_one-none _ there))
-          | inr other ↦ absurd (let there : Some 0 ≡ None = no_second d ds None other.0 one in (cc))
-        ]
-    | inr other ↦
-        let here : option_map (λ n. n + 1) (string_len false (d ∷ ds)) ≡ None = rw other.0 at is in
-        other_byte other.1 (string_len-none (d ∷ ds) (plus_one-none _ here))
-  ]
+  | inl same ↦
+      let here : option_map (λ n. n + 1) (string_len true (d ∷ ds)) ≡ None = rw same.0 at is in
+      let one : string_len true (d ∷ ds) ≡ None = plus_one-none _ here in
+      elim (eqb_tells d 39) [
+        | inl second ↦
+            let there : option_map (λ n. n + 1) (string_len false ds) ≡ None = second_quote d ds None second.0 one in
+            inside-doubled c d ds same.1 second.1 (string_len-none ds (plus_one-none _ there))
+        | inr other ↦ absurd (let there : Some 0 ≡ None = no_second d ds None other.0 one in (cc))
+      ]
+  | inr other ↦
+      let here : option_map (λ n. n + 1) (string_len false (d ∷ ds)) ≡ None = rw other.0 at is in
+      other_byte other.1 (string_len-none (d ∷ ds) (plus_one-none _ here))
+]
 
 -- a string goes at least to a quote that may close it
 pub string_len-covers : {s : List ℕ} → Inside s → (v : List ℕ) (n : ℕ) → string_len false (s ++ 39 ∷ v) ≡ Some n → length s + 1 ≤ n
@@ -113,10 +113,10 @@ string_len-open (two_quotes inner) = rw (string_len-open inner) refl
 pub keywords_len-covers : (bs : List ℕ) (n : ℕ) → keywords_len true bs ≡ Some n → prefix_len is_word_byte bs ≤ n
 keywords_len-covers [] n is = omega arith
 keywords_len-covers (c ∷ cs) n is = elim (is_word_byte c) as (λ v. is_word_byte c ≡ v → prefix_len is_word_byte (c ∷ cs) ≤ n) [
-    | true ↦ λ word.
-        let here : option_map (λ n. n + 1) (keywords_len true cs) ≡ Some n = rw word at is in
-        let one = plus_one-some (keywords_len true cs) n here in
-        let low : prefix_len is_word_byte cs ≤ one.0 = keywords_len-covers cs one.0 one.1 in
-        omega (arith, one.2, prefix_len-goes is_word_byte c cs word)
-    | false ↦ λ off. omega (arith, prefix_len-stops is_word_byte (c ∷ cs) off)
-  ] refl
+  | true ↦ λ word.
+      let here : option_map (λ n. n + 1) (keywords_len true cs) ≡ Some n = rw word at is in
+      let one = plus_one-some (keywords_len true cs) n here in
+      let low : prefix_len is_word_byte cs ≤ one.0 = keywords_len-covers cs one.0 one.1 in
+      omega (arith, one.2, prefix_len-goes is_word_byte c cs word)
+  | false ↦ λ off. omega (arith, prefix_len-stops is_word_byte (c ∷ cs) off)
+] refl

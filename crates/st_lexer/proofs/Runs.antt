@@ -56,16 +56,16 @@ prefix_len-covers p (c ∷ cs) after all =
 pub list_all-prefix : (p : ℕ → Bool) (bs : List ℕ) → list_all p (take (prefix_len p bs) bs) ≡ true
 list_all-prefix p [] = refl
 list_all-prefix p (c ∷ cs) = elim (p c) as (λ v. p c ≡ v → list_all p (take (prefix_len p (c ∷ cs)) (c ∷ cs)) ≡ true) [
-    | true ↦ λ is. rw (prefix_len-goes p c cs is) (and_both (p c) _ is (list_all-prefix p cs))
-    | false ↦ λ off. rw (prefix_len-stops p (c ∷ cs) off) refl
-  ] refl
+  | true ↦ λ is. rw (prefix_len-goes p c cs is) (and_both (p c) _ is (list_all-prefix p cs))
+  | false ↦ λ off. rw (prefix_len-stops p (c ∷ cs) off) refl
+] refl
 
 pub begins-prefix : (p : ℕ → Bool) (bs : List ℕ) → begins p (drop (prefix_len p bs) bs) ≡ false
 begins-prefix p [] = refl
 begins-prefix p (c ∷ cs) = elim (p c) as (λ v. p c ≡ v → begins p (drop (prefix_len p (c ∷ cs)) (c ∷ cs)) ≡ false) [
-    | true ↦ λ is. rw (prefix_len-goes p c cs is) (begins-prefix p cs)
-    | false ↦ λ off. rw (prefix_len-stops p (c ∷ cs) off) off
-  ] refl
+  | true ↦ λ is. rw (prefix_len-goes p c cs is) (begins-prefix p cs)
+  | false ↦ λ off. rw (prefix_len-stops p (c ∷ cs) off) off
+] refl
 
 -- a run from a first byte that passes
 pub is_run-prefix : (p : ℕ → Bool) (c : ℕ) (cs : List ℕ) → p c ≡ true → is_run p (take (prefix_len p (c ∷ cs)) (c ∷ cs)) ≡ true
@@ -97,6 +97,7 @@ begins_colon-split n bytes is = rw add-one (split n bytes is)
     unequal true true is = absurd (true≢false (sym is))
     unequal true false is = refl
     unequal false b is = absurd (true≢false (sym is))
+
     split : (n : ℕ) (bytes : List ℕ) → begins_colon (drop n bytes) ≡ true → (drop n bytes ≡ 58 ∷ drop (suc n) bytes) × (begins (λ c. c == 61) (drop (suc n) bytes) ≡ false)
     split zero [] is = absurd (true≢false (sym is))
     split (suc n) [] is = absurd (true≢false (sym is))

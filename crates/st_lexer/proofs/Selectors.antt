@@ -67,42 +67,42 @@ unequal false b is = absurd (true≢false (sym is))
 pub keywords_len-some : (name bs : List ℕ) (n : ℕ) → is_identifier name ≡ true → keywords_len true bs ≡ Some n → KeywordsAt name n bs
 keywords_len-some name [] n word is = absurd (cc)
 keywords_len-some name (c ∷ []) n word is = elim (is_word_byte c) as (λ v. is_word_byte c ≡ v → KeywordsAt name n (c ∷ [])) [
-    | true ↦ λ inside. let one = plus_one-some (keywords_len true []) n (word_goes c [] (Some n) inside is) in absurd (let never : None ≡ Some one.0 = one.1 in (cc))
-    | false ↦ λ off. elim (begins_colon (c ∷ [])) as (λ v. begins_colon (c ∷ []) ≡ v → KeywordsAt name n (c ∷ [])) [
-        | true ↦ λ colon.
-            let one = plus_one-some (Some 0) n (word_closes c [] (Some n) off colon is) in
-            let z : 0 ≡ one.0 = (cc) in
-            let there : (c == 58) ≡ true = and_left (c == 58) true colon in
-            let e : c ≡ 58 = grind (arith, there) in
-            keywords-last name c n [] word e (one.2 ∙ ap suc (sym z)) refl
-        | false ↦ λ none. absurd (let never : None ≡ Some n = word_fails c [] (Some n) off none is in (cc))
-      ] refl
+  | true ↦ λ inside. let one = plus_one-some (keywords_len true []) n (word_goes c [] (Some n) inside is) in absurd (let never : None ≡ Some one.0 = one.1 in (cc))
+  | false ↦ λ off. elim (begins_colon (c ∷ [])) as (λ v. begins_colon (c ∷ []) ≡ v → KeywordsAt name n (c ∷ [])) [
+    | true ↦ λ colon.
+        let one = plus_one-some (Some 0) n (word_closes c [] (Some n) off colon is) in
+        let z : 0 ≡ one.0 = (cc) in
+        let there : (c == 58) ≡ true = and_left (c == 58) true colon in
+        let e : c ≡ 58 = grind (arith, there) in
+        keywords-last name c n [] word e (one.2 ∙ ap suc (sym z)) refl
+    | false ↦ λ none. absurd (let never : None ≡ Some n = word_fails c [] (Some n) off none is in (cc))
   ] refl
+] refl
 keywords_len-some name (c ∷ d ∷ ds) n word is = elim (is_word_byte c) as (λ v. is_word_byte c ≡ v → KeywordsAt name n (c ∷ d ∷ ds)) [
-    | true ↦ λ inside.
-        let one = plus_one-some (keywords_len true (d ∷ ds)) n (word_goes c (d ∷ ds) (Some n) inside is) in
-        keywords-goes name c one.0 n (d ∷ ds) one.2 (keywords_len-some (name ++ c ∷ []) (d ∷ ds) one.0 (identifier_push name c word inside) one.1)
-    | false ↦ λ off. elim (begins_colon (c ∷ d ∷ ds)) as (λ v. begins_colon (c ∷ d ∷ ds) ≡ v → KeywordsAt name n (c ∷ d ∷ ds)) [
-        | true ↦ λ colon.
-            let one = plus_one-some (keywords_len false (d ∷ ds)) n (word_closes c (d ∷ ds) (Some n) off colon is) in
-            let there : (c == 58) ≡ true = and_left (c == 58) (not (d == 61)) colon in
-            let e : c ≡ 58 = grind (arith, there) in
-            let far : (d == 61) ≡ false = unequal (c == 58) (d == 61) colon in
-            elim (is_letter d) as (λ v. is_letter d ≡ v → KeywordsAt name n (c ∷ d ∷ ds)) [
-              | true ↦ λ letter.
-                  let more : Some (unwrap_or (option_map (λ n. n + 1) (keywords_len true ds)) 0) ≡ Some one.0 = another_begins d ds (Some one.0) letter one.1 in
-                  elim (keywords_len true ds) as (λ o. keywords_len true ds ≡ o → Some (unwrap_or (option_map (λ n. n + 1) o) 0) ≡ Some one.0 → KeywordsAt name n (c ∷ d ∷ ds)) [
-                    | None ↦ λ none. λ last. let z : 0 ≡ one.0 = (cc) in keywords-last name c n (d ∷ ds) word e (one.2 ∙ ap suc (sym z)) far
-                    | Some k ↦ λ some. λ next.
-                        let z : k + 1 ≡ one.0 = (cc) in
-                        let s : is_identifier (d ∷ []) ≡ true = and_both (is_letter d) true letter refl in
-                        keywords-next name c d k n ds word e (one.2 ∙ ap suc (sym z ∙ add-one k)) (keywords_len-some (d ∷ []) ds k s some)
-                  ] refl more
-              | false ↦ λ no_letter. let z : 0 ≡ one.0 = (let last : Some 0 ≡ Some one.0 = no_other d ds (Some one.0) no_letter one.1 in (cc)) in keywords-last name c n (d ∷ ds) word e (one.2 ∙ ap suc (sym z)) far
-            ] refl
-        | false ↦ λ none. absurd (let never : None ≡ Some n = word_fails c (d ∷ ds) (Some n) off none is in (cc))
-      ] refl
+  | true ↦ λ inside.
+      let one = plus_one-some (keywords_len true (d ∷ ds)) n (word_goes c (d ∷ ds) (Some n) inside is) in
+      keywords-goes name c one.0 n (d ∷ ds) one.2 (keywords_len-some (name ++ c ∷ []) (d ∷ ds) one.0 (identifier_push name c word inside) one.1)
+  | false ↦ λ off. elim (begins_colon (c ∷ d ∷ ds)) as (λ v. begins_colon (c ∷ d ∷ ds) ≡ v → KeywordsAt name n (c ∷ d ∷ ds)) [
+    | true ↦ λ colon.
+        let one = plus_one-some (keywords_len false (d ∷ ds)) n (word_closes c (d ∷ ds) (Some n) off colon is) in
+        let there : (c == 58) ≡ true = and_left (c == 58) (not (d == 61)) colon in
+        let e : c ≡ 58 = grind (arith, there) in
+        let far : (d == 61) ≡ false = unequal (c == 58) (d == 61) colon in
+        elim (is_letter d) as (λ v. is_letter d ≡ v → KeywordsAt name n (c ∷ d ∷ ds)) [
+          | true ↦ λ letter.
+              let more : Some (unwrap_or (option_map (λ n. n + 1) (keywords_len true ds)) 0) ≡ Some one.0 = another_begins d ds (Some one.0) letter one.1 in
+              elim (keywords_len true ds) as (λ o. keywords_len true ds ≡ o → Some (unwrap_or (option_map (λ n. n + 1) o) 0) ≡ Some one.0 → KeywordsAt name n (c ∷ d ∷ ds)) [
+                | None ↦ λ none. λ last. let z : 0 ≡ one.0 = (cc) in keywords-last name c n (d ∷ ds) word e (one.2 ∙ ap suc (sym z)) far
+                | Some k ↦ λ some. λ next.
+                    let z : k + 1 ≡ one.0 = (cc) in
+                    let s : is_identifier (d ∷ []) ≡ true = and_both (is_letter d) true letter refl in
+                    keywords-next name c d k n ds word e (one.2 ∙ ap suc (sym z ∙ add-one k)) (keywords_len-some (d ∷ []) ds k s some)
+              ] refl more
+          | false ↦ λ no_letter. let z : 0 ≡ one.0 = (let last : Some 0 ≡ Some one.0 = no_other d ds (Some one.0) no_letter one.1 in (cc)) in keywords-last name c n (d ∷ ds) word e (one.2 ∙ ap suc (sym z)) far
+        ] refl
+    | false ↦ λ none. absurd (let never : None ≡ Some n = word_fails c (d ∷ ds) (Some n) off none is in (cc))
   ] refl
+] refl
 
 -- what is computed of a selector is one
 selector_of : (o : Option ℕ) (c : ℕ) (cs : List ℕ) → is_letter c ≡ true → keywords_len true (c ∷ cs) ≡ o → IsSelector (take (unwrap_or o (prefix_len is_word_byte (c ∷ cs))) (c ∷ cs)) (drop (unwrap_or o (prefix_len is_word_byte (c ∷ cs))) (c ∷ cs))
@@ -128,9 +128,9 @@ keywords-word (c ∷ cs) r m all colon is =
 between_some : (r : List ℕ) → (m : ℕ) × (keywords_len false r ≡ Some m)
 between_some [] = (0, refl)
 between_some (c ∷ cs) = elim (is_letter c) as (λ v. is_letter c ≡ v → (m : ℕ) × (keywords_len false (c ∷ cs) ≡ Some m)) [
-    | true ↦ λ is. (unwrap_or (option_map (λ n. n + 1) (keywords_len true cs)) 0, rw is refl)
-    | false ↦ λ off. (0, rw off refl)
-  ] refl
+  | true ↦ λ is. (unwrap_or (option_map (λ n. n + 1) (keywords_len true cs)) 0, rw is refl)
+  | false ↦ λ off. (0, rw off refl)
+] refl
 
 -- between two keywords the next counts as a whole
 between_next : (bs : List ℕ) (n : ℕ) → begins is_letter bs ≡ true → keywords_len true bs ≡ Some n → keywords_len false bs ≡ Some n
@@ -148,9 +148,9 @@ keywords_begin (next_keyword name rest word e more) v = subst (λ (t : List ℕ)
 letter_equals : (bs : List ℕ) → begins is_letter bs ≡ true → begins (λ c. c == 61) bs ≡ false
 letter_equals [] is = refl
 letter_equals (c ∷ cs) is = elim (eqb_tells c 61) [
-    | inl same ↦ absurd (true≢false (sym is ∙ ap is_letter same.1))
-    | inr other ↦ other.0
-  ]
+  | inl same ↦ absurd (true≢false (sym is ∙ ap is_letter same.1))
+  | inr other ↦ other.0
+]
 
 pub colon_of : (r : List ℕ) → begins (λ c. c == 61) r ≡ false → begins_colon (58 ∷ r) ≡ true
 colon_of r off = rw off refl
@@ -164,14 +164,14 @@ keywords_cover {t = t} (last_keyword name word e) v off =
     let some = between_some v in
     let all = identifier_all name word in
     subst (λ (t : List ℕ). KeywordsCover t v) (sym e)
-      (some.0 + (length name + 1), rw append_assoc (keywords-word name v some.0 all (colon_of v off) some.1), omega (arith, length-append name (58 ∷ [])))
+    (some.0 + (length name + 1), rw append_assoc (keywords-word name v some.0 all (colon_of v off) some.1), omega (arith, length-append name (58 ∷ [])))
 keywords_cover {t = t} (next_keyword name rest word e more) v off =
     let next = keywords_cover more v off in
     let letter = keywords_begin more v in
     let all = identifier_all name word in
     let low : length rest ≤ next.0 = next.2 in
     subst (λ (t : List ℕ). KeywordsCover t v) (sym e)
-      (next.0 + (length name + 1), rw append_assoc (keywords-word name (rest ++ v) next.0 all (colon_of (rest ++ v) (letter_equals (rest ++ v) letter)) (between_next (rest ++ v) next.0 letter next.1)), omega (arith, length-append name (58 ∷ rest)))
+    (next.0 + (length name + 1), rw append_assoc (keywords-word name (rest ++ v) next.0 all (colon_of (rest ++ v) (letter_equals (rest ++ v) letter)) (between_next (rest ++ v) next.0 letter next.1)), omega (arith, length-append name (58 ∷ rest)))
 
 -- a selector is never longer than the computed one
 selector_word : (o : Option ℕ) (bs : List ℕ) (n : ℕ) → keywords_len true bs ≡ o → n ≤ prefix_len is_word_byte bs → n ≤ unwrap_or o (prefix_len is_word_byte bs)

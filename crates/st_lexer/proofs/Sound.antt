@@ -41,8 +41,8 @@ word_sound c cs letter =
     let n = prefix_len is_word_byte (c ∷ cs) in
     let word : is_identifier (take n (c ∷ cs)) ≡ true = rw (prefix_len-goes is_word_byte c cs (letter_word c letter)) (and_both (is_letter c) _ letter (list_all-prefix is_word_byte cs)) in
     either (c ∷ cs) (begins_colon (drop n (c ∷ cs))) (Lexeme kind.Keyword (n + 1)) (Lexeme kind.Identifier n)
-      (λ colon. let split = begins_colon-split n (c ∷ cs) colon in (take n (c ∷ cs), take-one_more n (c ∷ cs) (drop (n + 1) (c ∷ cs)) 58 split.0, word, split.1))
-      (λ off. word)
+    (λ colon. let split = begins_colon-split n (c ∷ cs) colon in (take n (c ∷ cs), take-one_more n (c ∷ cs) (drop (n + 1) (c ∷ cs)) 58 split.0, word, split.1))
+    (λ off. word)
 
 is_run-take : (p : ℕ → Bool) (m c : ℕ) (cs : List ℕ) → 0 < m → list_all p (take m (c ∷ cs)) ≡ true → is_run p (take m (c ∷ cs)) ≡ true
 is_run-take p zero c cs some all = absurd (omega arith)
@@ -89,9 +89,9 @@ operator_sound c cs op =
     let b = get_or (c ∷ cs) (n - 1) 0 == 45 in
     let d = begins is_digit (drop n (c ∷ cs)) in
     operator_cut (a && b && d) (c ∷ cs) n c cs refl low some (list_all-prefix is_operator_byte (c ∷ cs))
-      (λ cut. (ltb-true 1 n (and_left a b (and_left (a && b) d cut)), same_byte (get_or (c ∷ cs) (n - 1) 0) 45 (and_right a b (and_left (a && b) d cut))))
-      (λ off long minus. and_last a b d off (lt-ltb 1 n long) (rw minus refl))
-      (fewer n (list_all-prefix is_operator_byte (c ∷ cs)))
+    (λ cut. (ltb-true 1 n (and_left a b (and_left (a && b) d cut)), same_byte (get_or (c ∷ cs) (n - 1) 0) 45 (and_right a b (and_left (a && b) d cut))))
+    (λ off long minus. and_last a b d off (lt-ltb 1 n long) (rw minus refl))
+    (fewer n (list_all-prefix is_operator_byte (c ∷ cs)))
   where
     fewer : (n : ℕ) → list_all is_operator_byte (take n (c ∷ cs)) ≡ true → list_all is_operator_byte (take (n - 1) (c ∷ cs)) ≡ true
     fewer n all =
@@ -106,10 +106,10 @@ unfolding integer_at
 integer_sound bytes value n number =
     let whole : bytes ≡ take n bytes ++ drop n bytes = sym (take-append-drop n bytes) in
     either bytes (begins_float (drop n bytes)) (Spoiled reason.FloatOutside 0) (if nat_le value (2 ^ 127) then Lexeme (kind.Integer value) n else Spoiled reason.IntegerTooLarge 0)
-      (λ is. float_outside value (take n bytes) (drop n bytes) whole number is)
-      (λ off. either bytes (nat_le value (2 ^ 127)) (Lexeme (kind.Integer value) n) (Spoiled reason.IntegerTooLarge 0)
-        (λ low. number)
-        (λ high. integer_too_large value (take n bytes) (drop n bytes) whole number off (high_value value high)))
+    (λ is. float_outside value (take n bytes) (drop n bytes) whole number is)
+    (λ off. either bytes (nat_le value (2 ^ 127)) (Lexeme (kind.Integer value) n) (Spoiled reason.IntegerTooLarge 0)
+    (λ low. number)
+    (λ high. integer_too_large value (take n bytes) (drop n bytes) whole number off (high_value value high)))
 
 run_of : (p : ℕ → Bool) (t : List ℕ) → list_all p t ≡ true → 0 < length t → is_run p t ≡ true
 run_of p [] all some = absurd (omega arith)
@@ -136,14 +136,14 @@ radix_sound bytes n digits is =
     let stops : begins is_figure (drop m (drop (n + 1) bytes)) ≡ false = begins-prefix is_figure (drop (n + 1) bytes) in
     let all : list_all is_figure (take m (drop (n + 1) bytes)) ≡ true = list_all-prefix is_figure (drop (n + 1) bytes) in
     let whole : bytes ≡ take n bytes ++ 114 ∷ (take m (drop (n + 1) bytes) ++ drop m (drop (n + 1) bytes)) =
-          sym (take-append-drop n bytes) ∙ ap (λ (xs : List ℕ). take n bytes ++ xs) is ∙ ap (λ (xs : List ℕ). take n bytes ++ 114 ∷ xs) (sym (take-append-drop m (drop (n + 1) bytes))) in
+    sym (take-append-drop n bytes) ∙ ap (λ (xs : List ℕ). take n bytes ++ xs) is ∙ ap (λ (xs : List ℕ). take n bytes ++ 114 ∷ xs) (sym (take-append-drop m (drop (n + 1) bytes))) in
     either bytes (is_radix_number radix figures) (integer_at (value_of radix figures) (n + 1 + m) (drop m (drop (n + 1) bytes))) (Spoiled reason.BadRadix 0)
-      (λ good.
-        let some : nat_lt 0 (length figures) ≡ true = and_right _ _ (and_left _ _ good) in
-        let run : is_run is_figure figures ≡ true = run_of is_figure figures all (ltb-true 0 (length figures) some) in
-        let number : IsNumber (value_of radix figures) (take (n + 1 + m) bytes) (drop (n + 1 + m) bytes) = in_radix (take n bytes) figures taken digits run (subst (λ (xs : List ℕ). begins is_figure xs ≡ false) behind stops) good in
-        subst (λ (xs : List ℕ). IsSound bytes (integer_at (value_of radix figures) (n + 1 + m) xs)) (sym behind) (integer_sound bytes (value_of radix figures) (n + 1 + m) number))
-      (λ bad. bad_radix (take n bytes) figures (drop m (drop (n + 1) bytes)) whole digits all stops bad)
+    (λ good.
+    let some : nat_lt 0 (length figures) ≡ true = and_right _ _ (and_left _ _ good) in
+    let run : is_run is_figure figures ≡ true = run_of is_figure figures all (ltb-true 0 (length figures) some) in
+    let number : IsNumber (value_of radix figures) (take (n + 1 + m) bytes) (drop (n + 1 + m) bytes) = in_radix (take n bytes) figures taken digits run (subst (λ (xs : List ℕ). begins is_figure xs ≡ false) behind stops) good in
+    subst (λ (xs : List ℕ). IsSound bytes (integer_at (value_of radix figures) (n + 1 + m) xs)) (sym behind) (integer_sound bytes (value_of radix figures) (n + 1 + m) number))
+    (λ bad. bad_radix (take n bytes) figures (drop m (drop (n + 1) bytes)) whole digits all stops bad)
 
 begins-neither : (p : ℕ → Bool) (b : ℕ) (bs : List ℕ) → begins p bs ≡ false → begins (λ c. c == b) bs ≡ false → begins (λ c. p c || c == b) bs ≡ false
 begins-neither p b [] left right = refl
@@ -156,8 +156,8 @@ number_sound c cs digit =
     let digits : is_run is_digit (take n (c ∷ cs)) ≡ true = is_run-prefix is_digit c cs digit in
     let stops : begins is_digit (drop n (c ∷ cs)) ≡ false = begins-prefix is_digit (c ∷ cs) in
     either (c ∷ cs) (begins (λ c. c == 114) (drop n (c ∷ cs))) (radix_front (value_of 10 (take n (c ∷ cs))) (n + 1) (drop (n + 1) (c ∷ cs))) (integer_at (value_of 10 (take n (c ∷ cs))) n (drop n (c ∷ cs)))
-      (λ is. radix_sound (c ∷ cs) n digits (begins-split 114 n (c ∷ cs) is))
-      (λ off. integer_sound (c ∷ cs) (value_of 10 (take n (c ∷ cs))) n (decimal digits (begins-neither is_digit 114 (drop n (c ∷ cs)) stops off)))
+    (λ is. radix_sound (c ∷ cs) n digits (begins-split 114 n (c ∷ cs) is))
+    (λ off. integer_sound (c ∷ cs) (value_of 10 (take n (c ∷ cs))) n (decimal digits (begins-neither is_digit 114 (drop n (c ∷ cs)) stops off)))
 
 string_sound : (o : Option ℕ) (bs : List ℕ) → string_len false bs ≡ o → IsSound (39 ∷ bs) (string_front o)
 string_sound None bs is = open_string (string_len-none bs is)
@@ -189,8 +189,8 @@ symbol_sound (c ∷ cs) =
     either bytes (c == 39) (quoted_front (string_len false cs)) _ (λ is. quoted_here c cs is) (λ no_quote.
     either bytes (is_letter c) (Lexeme kind.Symbol (selector_len (c ∷ cs) + 1)) _ (λ letter. symbol_here (c ∷ cs) (selector_len (c ∷ cs)) (selector_len-is c cs letter)) (λ no_letter.
     either bytes (is_operator_byte c) (Lexeme kind.Symbol (prefix_len is_operator_byte (c ∷ cs) + 1)) (Spoiled reason.BadCharacter 0)
-      (λ op. symbol_here (c ∷ cs) (prefix_len is_operator_byte (c ∷ cs)) (operators (is_run-prefix is_operator_byte c cs op)))
-      (λ no_operator. no_symbol (or_neither _ (c == 40) (or_neither _ (c == 39) (or_neither (is_letter c) (is_operator_byte c) no_letter no_operator) no_quote) no_paren)))))
+    (λ op. symbol_here (c ∷ cs) (prefix_len is_operator_byte (c ∷ cs)) (operators (is_run-prefix is_operator_byte c cs op)))
+    (λ no_operator. no_symbol (or_neither _ (c == 40) (or_neither _ (c == 39) (or_neither (is_letter c) (is_operator_byte c) no_letter no_operator) no_quote) no_paren)))))
 
 character_sound : (bytes : List ℕ) → IsSound (36 ∷ bytes) (character_front bytes)
 character_sound [] = no_character
@@ -239,7 +239,7 @@ sign_sound b bs classes dollar quote double hash =
     either bytes (b == 94) (Lexeme kind.Caret 1) _ (λ is. one kind.Caret 94 is) (λ caret.
     either bytes (b == 46) (Lexeme kind.Period 1) _ (λ is. one kind.Period 46 is) (λ period.
     either bytes (b == 59) (Lexeme kind.Semicolon 1) (Spoiled reason.BadCharacter 0) (λ is. one kind.Semicolon 59 is) (λ semicolon.
-      no_token (or_neither _ (b == 94) (or_neither _ (b == 93) (or_neither _ (b == 91) (or_neither _ (b == 59) (or_neither _ (b == 58) (or_neither _ (b == 46) (or_neither _ (b == 41) (or_neither _ (b == 40) (or_neither _ (b == 39) (or_neither _ (b == 36) (or_neither _ (b == 35) (or_neither _ (b == 34) (or_neither _ (is_white_byte b) classes white) double) hash) dollar) quote) round) round_close) period) colon) semicolon) square) square_close) caret))))))))))
+    no_token (or_neither _ (b == 94) (or_neither _ (b == 93) (or_neither _ (b == 91) (or_neither _ (b == 59) (or_neither _ (b == 58) (or_neither _ (b == 46) (or_neither _ (b == 41) (or_neither _ (b == 40) (or_neither _ (b == 39) (or_neither _ (b == 36) (or_neither _ (b == 35) (or_neither _ (b == 34) (or_neither _ (is_white_byte b) classes white) double) hash) dollar) quote) round) round_close) period) colon) semicolon) square) square_close) caret))))))))))
   where
     colon_sound : (b : ℕ) (bs : List ℕ) → (b == 58) ≡ true → IsSound (b ∷ bs) (if begins (λ c. c == 61) bs then Lexeme kind.Assign 2 else Lexeme kind.Colon 1)
     colon_sound b [] is = ap (λ d. d ∷ []) (same_byte b 58 is)
@@ -259,4 +259,4 @@ front_sound b bs =
     either bytes (b == 39) (string_front (string_len false bs)) _ (λ is. starting b bs 39 (string_front (string_len false bs)) is (string_sound (string_len false bs) bs refl)) (λ quote.
     either bytes (b == 34) (comment_front (comment_len bs)) _ (λ is. starting b bs 34 (comment_front (comment_len bs)) is (comment_sound bs)) (λ double.
     either bytes (b == 35) (symbol_front bs) (sign_front b bs) (λ is. starting b bs 35 (symbol_front bs) is (symbol_sound bs)) (λ hash.
-      sign_sound b bs (or_neither _ (is_operator_byte b) (or_neither (is_letter b) (is_digit b) no_letter no_digit) no_operator) dollar quote double hash)))))))
+    sign_sound b bs (or_neither _ (is_operator_byte b) (or_neither (is_letter b) (is_digit b) no_letter no_digit) no_operator) dollar quote double hash)))))))

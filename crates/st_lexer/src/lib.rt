@@ -4,11 +4,13 @@
 
 mod bytes;
 mod front;
+mod law;
 mod numbers;
 mod scan;
 mod spans;
 #[cfg(test)]
 mod tests;
 
+pub use law::{each_text_lexes_once, tokens_stand_in_order};
 pub use scan::{Lexed, tokens};
 pub use st_base::{LexFault, Token, TokenKind};
