@@ -83,7 +83,6 @@ impl ChunkReader {
         ensures stop { self.new.stop ≡ stop_of result }
         ensures input { self.new.stop ≡ None → self.new.taken ≤ MAX_INPUT }
         ensures most { self.new.taken ≤ MAX_INPUT + 1 }
-        ensures live { self.new.stop ≡ None → self.new.taken ≤ MAX_INPUT }
         ensures moved { judged self.old ≤ judged self.new }
         ensures progress { self.old.stop ≡ None → result ≡ Next.Element → judged self.old < judged self.new }
         ensures bound { judged self.new ≤ MAX_INPUT }

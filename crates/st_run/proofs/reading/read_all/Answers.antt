@@ -58,4 +58,4 @@ returns-in-InputTooLong-clause-told g c =
 
 pub returns-in-ReadFault-clause-unsettled : goal.returns-in-ReadFault-clause-unsettled
 returns-in-ReadFault-clause-unsettled g c = λ fault.
-    fault_leaves_open c.loop-reader.awaited c.loop-reader.invariant.ahead.0 c.loop-reader.reader c.next-next.new.self c.loop-reader.shown.items (g.S.Source.left c.args.source.now) (g.S.Source.left c.loop-reader.source) (g.S.Source.left c.next-next.new.source) c.loop-reader.invariant.ahead.1 c.in-ReadFault.ensures.settled (c.in-ReadFault.ensures.live c.in-ReadFault.ensures.stop) c.loop-reader.invariant.ahead.3
+    fault_leaves_open c.loop-reader.awaited c.loop-reader.invariant.ahead.0 c.loop-reader.reader c.next-next.new.self c.loop-reader.shown.items (g.S.Source.left c.args.source.now) (g.S.Source.left c.loop-reader.source) (g.S.Source.left c.next-next.new.source) c.loop-reader.invariant.ahead.1 c.in-ReadFault.ensures.settled (c.in-ReadFault.ensures.input c.in-ReadFault.ensures.stop) c.loop-reader.invariant.ahead.3
