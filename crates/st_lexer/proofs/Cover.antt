@@ -1,19 +1,17 @@
 -- What has a token's form is never longer than what is computed at the front of bytes.
-use Rattle.std.proofs.Common.{◌≡◌, ◌≢◌, ◌+◌, ◌-◌, ◌^◌, ◌<◌, ◌≤◌, ℕ, zero, suc, Bool, true, false, true≢false, not, ◌&&◌, ◌||◌, ◌==◌, ◌⊎◌, inl, inr, List, [], ◌∷◌, ◌++◌, drop, take, length, nat_lt, nat_le, slice_index, Option, None, Some, refl, ap, sym, subst, ◌∙◌, arith, get_or, add-one, append_assoc, unwrap_or, position, if◌then◌else◌, length-append}
+use Rattle.std.proofs.Common.{◌≡◌, ◌+◌, ◌-◌, ◌^◌, ◌<◌, ◌≤◌, ℕ, Bool, true, false, true≢false, ◌&&◌, ◌||◌, ◌==◌, inl, inr, List, [], ◌∷◌, ◌++◌, drop, take, length, nat_lt, nat_le, Option, None, Some, refl, ap, sym, subst, ◌∙◌, arith, get_or, append_assoc, if◌then◌else◌, length-append}
 use Rattle.std.specs.List.{prefix_len, list_all}
-use Rattle.std.specs.Option.{option_map}
-use Rattle.std.proofs.lemmas.List.{take_at, drop_at, drop-drop, append-nil, drop_more}
-use Rattle.std.proofs.lemmas.List.Sums.{prefix_len-le-length}
+use Rattle.std.proofs.lemmas.List.{take_at, drop_at, drop-drop}
 use Rattle.std.proofs.lemmas.Bool.Decides.{eqb_tells}
 use Rattle.st_base.specs.declared.tokens.TokenKind.{TokenKind}
 use Rattle.st_base.specs.declared.tokens.TokenKind.TheVariants as kind
 use Rattle.st_base.specs.declared.faults.Reason.TheVariants as reason
-use Rattle.st_base.specs.TokenBytes.{is_letter, is_digit, is_word_byte, is_operator_byte, is_white_byte, is_figure, begins, begins_colon, begins_float}
-use Rattle.st_base.specs.Lexed.{Front, Lexeme, Gap, Spoiled, word_at, word_front, operator_at, operator_len, value_of, integer_at, is_radix_number, figures_at, radix_front, number_at, number_front, string_len, string_front, quoted_front, selector_len, symbol_front, character_front, comment_len, comment_front, sign_front, front_of}
-use Rattle.st_base.specs.Lexes.{is_identifier, is_run, AreKeywords, Inside, IsString, IsNumber, decimal, in_radix, IsSelector, one_word, keywords, operators, HasForm}
-use Rattle.st_lexer.proofs.Runs.{and_left, and_right, and_both, or_left, or_right, or_neither, prefix_len-goes, prefix_len-whole, prefix_len-covers, is_run-all}
-use Rattle.st_lexer.proofs.Quotes.{string_len-covers, string_len-open}
-use Rattle.st_lexer.proofs.Selectors.{letter_word, identifier_all, identifier_begins, keywords_begin, colon_of, selector_len-word, selector_len-keywords}
+use Rattle.st_base.specs.TokenBytes.{is_letter, is_digit, is_word_byte, is_operator_byte, is_figure, begins, begins_colon, begins_float}
+use Rattle.st_base.specs.Lexed.{Front, Lexeme, Gap, Spoiled, word_at, word_front, operator_len, value_of, integer_at, is_radix_number, figures_at, radix_front, number_at, number_front, string_len, string_front, quoted_front, selector_len, symbol_front, sign_front, front_of}
+use Rattle.st_base.specs.Lexes.{is_identifier, is_run, Inside, IsString, IsNumber, decimal, in_radix, IsSelector, one_word, keywords, operators, HasForm}
+use Rattle.st_lexer.proofs.Runs.{and_left, and_right, or_left, or_right, or_neither, prefix_len-whole, prefix_len-covers, is_run-all}
+use Rattle.st_lexer.proofs.Quotes.{string_len-covers}
+use Rattle.st_lexer.proofs.Selectors.{identifier_all, identifier_begins, keywords_begin, colon_of, selector_len-word, selector_len-keywords}
 use Rattle.st_lexer.proofs.Sound.{same_byte}
 
 -- bytes of a kind that have this length are no more than a front takes, and of its kind where they are as many
@@ -124,7 +122,7 @@ keyword_cover u v name e is off =
     subst (Covers kind.Keyword (length u)) (sym (ap front_at whole ∙ keyword-front name v is off)) (omega arith, λ same. refl)
 
 -- operators
-run_begins : (p : ℕ → Bool) (u v : List ℕ) → is_run p u ≡ true → begins p (u ++ v) ≡ true
+pub run_begins : (p : ℕ → Bool) (u v : List ℕ) → is_run p u ≡ true → begins p (u ++ v) ≡ true
 run_begins p [] v is = absurd (true≢false (sym is))
 run_begins p (c ∷ cs) v is = and_left (p c) (list_all p cs) is
 
@@ -254,12 +252,12 @@ pub symbol-quote : (bs : List ℕ) → symbol_front (39 ∷ bs) ≡ quoted_front
 unfolding symbol_front
 symbol-quote bs = refl
 
-symbol-word : (bs : List ℕ) → begins is_letter bs ≡ true → symbol_front bs ≡ Lexeme kind.Symbol (selector_len bs + 1)
+pub symbol-word : (bs : List ℕ) → begins is_letter bs ≡ true → symbol_front bs ≡ Lexeme kind.Symbol (selector_len bs + 1)
 unfolding symbol_front
 symbol-word [] is = absurd (true≢false (sym is))
 symbol-word (c ∷ cs) is = rw (differs is_letter c 40 is refl, differs is_letter c 39 is refl, is) refl
 
-symbol-operator : (bs : List ℕ) → begins is_operator_byte bs ≡ true → symbol_front bs ≡ Lexeme kind.Symbol (prefix_len is_operator_byte bs + 1)
+pub symbol-operator : (bs : List ℕ) → begins is_operator_byte bs ≡ true → symbol_front bs ≡ Lexeme kind.Symbol (prefix_len is_operator_byte bs + 1)
 unfolding symbol_front
 symbol-operator [] is = absurd (true≢false (sym is))
 symbol-operator (c ∷ cs) is = let plain = operator_plain c is in rw (differs is_operator_byte c 40 is refl, differs is_operator_byte c 39 is refl, plain.0, is) refl

@@ -1,19 +1,18 @@
 -- A text has exactly the tokens and the fault that are computed.
-use Rattle.std.proofs.Common.{◌≡◌, ◌≢◌, ◌+◌, ◌-◌, ◌^◌, ◌<◌, ◌≤◌, ℕ, zero, suc, Bool, true, false, true≢false, not, ◌&&◌, ◌||◌, ◌==◌, ◌⊎◌, inl, inr, List, [], ◌∷◌, ◌++◌, drop, take, length, nat_lt, nat_le, slice_index, Option, None, Some, refl, ap, sym, subst, ◌∙◌, arith, get_or, add-one, append_assoc, unwrap_or, position, if◌then◌else◌, length-append, length-drop, ◌↔◌}
+use Rattle.std.proofs.Common.{◌≡◌, ◌+◌, ◌^◌, ◌<◌, ◌≤◌, ℕ, zero, suc, true, false, ◌||◌, ◌==◌, List, [], ◌∷◌, ◌++◌, drop, take, length, nat_lt, nat_le, Option, Some, refl, ap, sym, subst, ◌∙◌, arith, get_or, append_assoc, length-append, length-drop, ◌↔◌}
 use Rattle.std.specs.List.{prefix_len, list_all}
-use Rattle.std.specs.Option.{option_map}
-use Rattle.std.proofs.lemmas.List.{take-append-drop, take_at, drop_at, append-nil, length-take-le}
+use Rattle.std.proofs.lemmas.List.{take-append-drop, drop_at, append-nil, length-take-le}
 use Rattle.st_base.specs.declared.tokens.Token.{Token}
 use Rattle.st_base.specs.declared.tokens.TokenKind.{TokenKind}
 use Rattle.st_base.specs.declared.tokens.LexFault.{LexFault}
 use Rattle.st_base.specs.declared.faults.Reason.{Reason}
 use Rattle.st_base.specs.declared.faults.Reason.TheVariants as reason
-use Rattle.st_base.specs.TokenBytes.{is_letter, is_digit, is_word_byte, is_operator_byte, is_white_byte, is_figure, begins, begins_colon, begins_float}
-use Rattle.st_base.specs.Lexed.{Front, Lexeme, Gap, Spoiled, value_of, integer_at, is_radix_number, radix_front, number_at, number_front, string_len, string_front, quoted_front, symbol_front, comment_len, comment_front, sign_front, front_of, LexedText, lexed_with, lexed_at, lexed_of}
-use Rattle.st_base.specs.Lexes.{is_run, Inside, IsNumber, HasForm, begins_something, Spoils, no_token, no_symbol, no_character, open_string, open_symbol, open_comment, bad_radix, float_outside, integer_too_large, IsToken, LexesFrom, ended, white, comment, token, spoiled, Lexes}
+use Rattle.st_base.specs.TokenBytes.{is_letter, is_digit, is_operator_byte, is_white_byte, is_figure, begins, begins_float}
+use Rattle.st_base.specs.Lexed.{Front, Lexeme, Gap, Spoiled, value_of, integer_at, is_radix_number, string_front, quoted_front, symbol_front, comment_len, comment_front, sign_front, front_of, LexedText, lexed_at, lexed_of}
+use Rattle.st_base.specs.Lexes.{is_run, begins_something, Spoils, no_token, no_symbol, no_character, open_string, open_symbol, open_comment, bad_radix, float_outside, integer_too_large, IsToken, LexesFrom, ended, white, comment, token, spoiled, Lexes}
 use Rattle.st_lexer.proofs.Fronts.{FrontFits, front_fits}
 use Rattle.st_lexer.proofs.Scanning.{behind_tokens, lexed_at-lexeme, lexed_at-gap, lexed_at-spoiled}
-use Rattle.st_lexer.proofs.Runs.{or_left, or_right, prefix_len-whole, is_run-all}
+use Rattle.st_lexer.proofs.Runs.{or_left, or_right, prefix_len-whole}
 use Rattle.st_lexer.proofs.Quotes.{string_len-open}
 use Rattle.st_lexer.proofs.Sound.{IsGap, white_gap, comment_gap, IsSound, front_sound, same_byte, is_inner}
 use Rattle.st_lexer.proofs.Cover.{Covers, front_at, cover, or_case, digits-front, digits_at, number_radix_at, figures_front, number-front, front-quote, front-hash, symbol-quote}
@@ -80,7 +79,7 @@ comment-front inner after all =
 white_leaf : (c n : ℕ) (cs : List ℕ) → front_of n cs ≡ Gap 1 → (c == n) ≡ true → front_of c cs ≡ Gap 1
 white_leaf c n cs there is = ap (λ d. front_of d cs) (same_byte c n is) ∙ there
 
-white-front : (c : ℕ) (cs : List ℕ) → is_white_byte c ≡ true → front_of c cs ≡ Gap 1
+pub white-front : (c : ℕ) (cs : List ℕ) → is_white_byte c ≡ true → front_of c cs ≡ Gap 1
 unfolding front_of sign_front
 white-front c cs is =
     or_case _ (c == 32) (or_case _ (c == 13) (or_case _ (c == 12) (or_case (c == 9) (c == 10) (white_leaf c 9 cs refl) (white_leaf c 10 cs refl)) (white_leaf c 12 cs refl)) (white_leaf c 13 cs refl)) (white_leaf c 32 cs refl) is
@@ -159,12 +158,12 @@ token-front k t after is =
     token_of k t after (front_at (t ++ after)) is refl (sound_at (t ++ after) some) (fits_at (t ++ after) some) covers
 
 -- bytes that a front takes
-at_lexeme : (bytes : List ℕ) (at n : ℕ) (k : TokenKind) → 0 < length bytes → front_at bytes ≡ Lexeme k n → lexed_at 0 at bytes ≡ behind_tokens (record { kind = k; start = at; end = at + n } ∷ []) (lexed_at 0 (at + n) (drop n bytes))
+pub at_lexeme : (bytes : List ℕ) (at n : ℕ) (k : TokenKind) → 0 < length bytes → front_at bytes ≡ Lexeme k n → lexed_at 0 at bytes ≡ behind_tokens (record { kind = k; start = at; end = at + n } ∷ []) (lexed_at 0 (at + n) (drop n bytes))
 at_lexeme bytes at n k some is =
     let fits = subst (FrontFits (length bytes)) is (fits_at bytes some) in
     lexed_at-lexeme bytes at n k some (sym is ∙ at_front bytes some) fits.0 fits.1
 
-at_gap : (bytes : List ℕ) (at n : ℕ) → 0 < length bytes → front_at bytes ≡ Gap n → lexed_at 0 at bytes ≡ lexed_at 0 (at + n) (drop n bytes)
+pub at_gap : (bytes : List ℕ) (at n : ℕ) → 0 < length bytes → front_at bytes ≡ Gap n → lexed_at 0 at bytes ≡ lexed_at 0 (at + n) (drop n bytes)
 at_gap bytes at n some is =
     let fits = subst (FrontFits (length bytes)) is (fits_at bytes some) in
     lexed_at-gap bytes at n some (sym is ∙ at_front bytes some) fits.0 fits.1

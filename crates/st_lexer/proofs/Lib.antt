@@ -10,3 +10,5 @@ pub mod Sound
 pub mod Cover
 pub mod LexesLaw
 pub mod Order
+pub mod Spelled
+pub mod Decimals

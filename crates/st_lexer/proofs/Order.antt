@@ -1,9 +1,9 @@
 -- The tokens of a text stand in it in order, and its fault is at one of its bytes.
-use Rattle.std.proofs.Common.{◌≡◌, ◌+◌, ◌-◌, ◌<◌, ◌≤◌, ℕ, zero, suc, List, [], ◌∷◌, ◌++◌, length, Option, None, Some, IfSome, All, refl, ap, sym, subst, ◌∙◌, arith, length-append}
+use Rattle.std.proofs.Common.{◌≡◌, ◌+◌, ◌<◌, ◌≤◌, ℕ, zero, suc, List, [], ◌∷◌, ◌++◌, length, Option, IfSome, All, ap, subst, arith, length-append}
 use Rattle.st_base.specs.declared.tokens.Token.{Token}
 use Rattle.st_base.specs.declared.tokens.TokenKind.{TokenKind}
 use Rattle.st_base.specs.declared.tokens.LexFault.{LexFault}
-use Rattle.st_base.specs.Lexed.{Lexeme, Spoiled, lexed_at, lexed_of, Fits, AreInOrder}
+use Rattle.st_base.specs.Lexed.{lexed_of, Fits, AreInOrder}
 use Rattle.st_base.specs.Lexes.{IsToken, LexesFrom, ended, white, comment, token, spoiled}
 use Rattle.st_lexer.proofs.Fronts.{FrontFits}
 use Rattle.st_lexer.proofs.LexesLaw.{token-front, spoiled-front, spoiled_some, fits_at, some_of, lexes-from}

@@ -1,13 +1,13 @@
 -- Strings and keywords by their forms, and how far the computed lengths go.
-use Rattle.std.proofs.Common.{◌≡◌, ◌≢◌, ◌+◌, ◌-◌, ◌<◌, ◌≤◌, ℕ, zero, suc, Bool, true, false, true≢false, not, ◌&&◌, ◌||◌, ◌==◌, ◌⊎◌, inl, inr, List, [], ◌∷◌, ◌++◌, drop, take, length, Option, None, Some, refl, ap, sym, subst, ◌∙◌, arith, get_or, add-one, append_assoc, unwrap_or, if◌then◌else◌}
-use Rattle.std.specs.List.{prefix_len, list_all}
+use Rattle.std.proofs.Common.{◌≡◌, ◌≢◌, ◌+◌, ◌≤◌, ℕ, suc, true, false, ◌==◌, inl, inr, List, [], ◌∷◌, ◌++◌, take, length, Option, None, Some, refl, ap, sym, subst, ◌∙◌, arith, add-one}
+use Rattle.std.specs.List.{prefix_len}
 use Rattle.std.specs.Option.{option_map}
 use Rattle.std.proofs.lemmas.Bool.{ne_eqb}
 use Rattle.std.proofs.lemmas.Bool.Decides.{eqb_tells}
-use Rattle.st_base.specs.TokenBytes.{is_letter, is_digit, is_word_byte, begins, begins_colon}
-use Rattle.st_base.specs.Lexed.{string_len, keywords_len, selector_len}
-use Rattle.st_base.specs.Lexes.{is_identifier, is_run, AreKeywords, last_keyword, next_keyword, Inside, no_byte, other_byte, two_quotes, IsSelector, one_word, keywords, operators}
-use Rattle.st_lexer.proofs.Runs.{and_left, and_right, and_both, prefix_len-goes, prefix_len-stops, prefix_len-covers, list_all-prefix, is_run-prefix, is_run-all}
+use Rattle.st_base.specs.TokenBytes.{is_word_byte}
+use Rattle.st_base.specs.Lexed.{string_len, keywords_len}
+use Rattle.st_base.specs.Lexes.{Inside, no_byte, other_byte, two_quotes}
+use Rattle.st_lexer.proofs.Runs.{prefix_len-goes, prefix_len-stops}
 
 -- what is one more than another
 pub plus_one-some : (o : Option ℕ) (n : ℕ) → option_map (λ n. n + 1) o ≡ Some n → (m : ℕ) × (o ≡ Some m) × (n ≡ suc m)

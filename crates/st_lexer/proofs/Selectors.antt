@@ -1,14 +1,13 @@
 -- Keywords and selectors by their forms, and how far the computed lengths go.
-use Rattle.std.proofs.Common.{◌≡◌, ◌≢◌, ◌+◌, ◌-◌, ◌<◌, ◌≤◌, ℕ, zero, suc, Bool, true, false, true≢false, not, ◌&&◌, ◌||◌, ◌==◌, ◌⊎◌, inl, inr, List, [], ◌∷◌, ◌++◌, drop, take, length, Option, None, Some, refl, ap, sym, subst, ◌∙◌, arith, get_or, add-one, append_assoc, unwrap_or, if◌then◌else◌, length-append}
+use Rattle.std.proofs.Common.{◌≡◌, ◌+◌, ◌≤◌, ℕ, suc, Bool, true, false, true≢false, not, ◌&&◌, ◌==◌, inl, inr, List, [], ◌∷◌, ◌++◌, drop, take, length, Option, None, Some, refl, ap, sym, subst, ◌∙◌, arith, add-one, append_assoc, unwrap_or, length-append}
 use Rattle.std.specs.List.{prefix_len, list_all}
 use Rattle.std.specs.Option.{option_map}
-use Rattle.std.proofs.lemmas.List.{append-nil}
 use Rattle.std.proofs.lemmas.Bool.Decides.{eqb_tells}
-use Rattle.st_base.specs.TokenBytes.{is_letter, is_digit, is_word_byte, begins, begins_colon}
+use Rattle.st_base.specs.TokenBytes.{is_letter, is_word_byte, begins, begins_colon}
 use Rattle.st_base.specs.Lexed.{keywords_len, selector_len}
-use Rattle.st_base.specs.Lexes.{is_identifier, is_run, AreKeywords, last_keyword, next_keyword, IsSelector, one_word, keywords}
-use Rattle.st_lexer.proofs.Runs.{and_left, and_right, and_both, prefix_len-goes, prefix_len-stops, prefix_len-covers, list_all-prefix}
-use Rattle.st_lexer.proofs.Quotes.{plus_one-some, plus_one-none, keywords_len-covers}
+use Rattle.st_base.specs.Lexes.{is_identifier, AreKeywords, last_keyword, next_keyword, IsSelector, one_word, keywords}
+use Rattle.st_lexer.proofs.Runs.{and_left, and_right, and_both, prefix_len-goes, prefix_len-covers, list_all-prefix}
+use Rattle.st_lexer.proofs.Quotes.{plus_one-some, keywords_len-covers}
 
 pub letter_word : (c : ℕ) → is_letter c ≡ true → is_word_byte c ≡ true
 letter_word c is = rw is refl
@@ -118,7 +117,7 @@ unfolding selector_len
 selector_len-is c cs letter = selector_of (keywords_len true (c ∷ cs)) c cs letter refl
 
 -- keywords go at least to the colon that no `=` follows
-keywords-word : (w r : List ℕ) (m : ℕ) → list_all is_word_byte w ≡ true → begins_colon (58 ∷ r) ≡ true → keywords_len false r ≡ Some m → keywords_len true (w ++ 58 ∷ r) ≡ Some (m + (length w + 1))
+pub keywords-word : (w r : List ℕ) (m : ℕ) → list_all is_word_byte w ≡ true → begins_colon (58 ∷ r) ≡ true → keywords_len false r ≡ Some m → keywords_len true (w ++ 58 ∷ r) ≡ Some (m + (length w + 1))
 keywords-word [] r m all colon is = rw (colon, is) (ap Some (let e : m + 1 ≡ m + (0 + 1) = omega arith in e))
 keywords-word (c ∷ cs) r m all colon is =
     let rest = keywords-word cs r m (and_right (is_word_byte c) (list_all is_word_byte cs) all) colon is in
@@ -133,7 +132,7 @@ between_some (c ∷ cs) = elim (is_letter c) as (λ v. is_letter c ≡ v → (m 
 ] refl
 
 -- between two keywords the next counts as a whole
-between_next : (bs : List ℕ) (n : ℕ) → begins is_letter bs ≡ true → keywords_len true bs ≡ Some n → keywords_len false bs ≡ Some n
+pub between_next : (bs : List ℕ) (n : ℕ) → begins is_letter bs ≡ true → keywords_len true bs ≡ Some n → keywords_len false bs ≡ Some n
 between_next [] n letter is = absurd (true≢false (sym letter))
 between_next (c ∷ cs) n letter is = rw letter (next (keywords_len true cs) (word_goes c cs (Some n) (letter_word c letter) is))
   where
@@ -145,7 +144,7 @@ pub keywords_begin : {t : List ℕ} → AreKeywords t → (v : List ℕ) → beg
 keywords_begin (last_keyword name word e) v = subst (λ (t : List ℕ). begins is_letter (t ++ v) ≡ true) (sym e) (rw append_assoc (identifier_begins name (58 ∷ v) word))
 keywords_begin (next_keyword name rest word e more) v = subst (λ (t : List ℕ). begins is_letter (t ++ v) ≡ true) (sym e) (rw append_assoc (identifier_begins name (58 ∷ (rest ++ v)) word))
 
-letter_equals : (bs : List ℕ) → begins is_letter bs ≡ true → begins (λ c. c == 61) bs ≡ false
+pub letter_equals : (bs : List ℕ) → begins is_letter bs ≡ true → begins (λ c. c == 61) bs ≡ false
 letter_equals [] is = refl
 letter_equals (c ∷ cs) is = elim (eqb_tells c 61) [
   | inl same ↦ absurd (true≢false (sym is ∙ ap is_letter same.1))

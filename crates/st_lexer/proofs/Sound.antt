@@ -1,5 +1,5 @@
 -- What is computed at the front of bytes has the form that it names.
-use Rattle.std.proofs.Common.{◌≡◌, ◌≢◌, ◌+◌, ◌-◌, ◌^◌, ◌<◌, ◌≤◌, ℕ, zero, suc, Bool, true, false, true≢false, not, ◌&&◌, ◌||◌, ◌==◌, ◌⊎◌, inl, inr, List, [], ◌∷◌, ◌++◌, drop, take, length, nat_lt, nat_le, slice_index, Option, None, Some, refl, ap, sym, subst, ◌∙◌, arith, get_or, add-one, append_assoc, unwrap_or, position, if◌then◌else◌, length-append}
+use Rattle.std.proofs.Common.{◌≡◌, ◌+◌, ◌-◌, ◌^◌, ◌<◌, ◌≤◌, ℕ, zero, suc, Bool, true, false, true≢false, not, ◌&&◌, ◌||◌, ◌==◌, List, [], ◌∷◌, ◌++◌, drop, take, length, nat_lt, nat_le, Option, None, Some, refl, ap, sym, subst, ◌∙◌, arith, get_or, add-one, append_assoc, if◌then◌else◌, length-append}
 use Rattle.std.specs.List.{prefix_len, list_all}
 use Rattle.std.specs.Option.{option_map}
 use Rattle.std.proofs.lemmas.List.{take-append-drop, take-take, drop-take, drop-drop, drop_more, length-take-le, take_all}
@@ -10,10 +10,10 @@ use Rattle.st_base.specs.declared.tokens.TokenKind.{TokenKind}
 use Rattle.st_base.specs.declared.tokens.TokenKind.TheVariants as kind
 use Rattle.st_base.specs.declared.faults.Reason.TheVariants as reason
 use Rattle.st_base.specs.TokenBytes.{is_letter, is_digit, is_word_byte, is_operator_byte, is_white_byte, is_figure, begins, begins_colon, begins_float}
-use Rattle.st_base.specs.Lexed.{Front, Lexeme, Gap, Spoiled, word_at, word_front, operator_at, operator_len, value_of, integer_at, is_radix_number, figures_at, radix_front, number_at, number_front, string_len, string_front, quoted_front, selector_len, symbol_front, character_front, comment_len, comment_front, sign_front, front_of}
-use Rattle.st_base.specs.Lexes.{is_identifier, is_run, IsString, IsNumber, decimal, in_radix, IsSelector, operators, HasForm, begins_something, Spoils, no_token, no_symbol, no_character, open_string, open_symbol, open_comment, bad_radix, float_outside, integer_too_large}
-use Rattle.st_lexer.proofs.Runs.{and_left, and_right, and_both, or_left, or_right, or_neither, prefix_len-goes, list_all-prefix, begins-prefix, is_run-prefix, list_all-take, begins-split, begins_colon-split, take-one_more}
-use Rattle.st_lexer.proofs.Quotes.{StringAt, string_len-some, string_len-none, plus_one-some, plus_one-none}
+use Rattle.st_base.specs.Lexed.{Front, Lexeme, Gap, Spoiled, word_front, operator_len, value_of, integer_at, is_radix_number, radix_front, number_front, string_len, string_front, quoted_front, selector_len, symbol_front, character_front, comment_len, comment_front, sign_front, front_of}
+use Rattle.st_base.specs.Lexes.{is_identifier, is_run, IsString, IsNumber, decimal, in_radix, IsSelector, operators, HasForm, Spoils, no_token, no_symbol, no_character, open_string, open_symbol, open_comment, bad_radix, float_outside, integer_too_large}
+use Rattle.st_lexer.proofs.Runs.{and_left, and_right, and_both, or_neither, prefix_len-goes, list_all-prefix, begins-prefix, is_run-prefix, list_all-take, begins-split, begins_colon-split, take-one_more}
+use Rattle.st_lexer.proofs.Quotes.{string_len-some, string_len-none}
 use Rattle.st_lexer.proofs.Selectors.{letter_word, selector_len-is}
 
 -- white space or a comment of n bytes
