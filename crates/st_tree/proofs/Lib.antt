@@ -1,1 +1,3 @@
 pub mod SameLaws
+mod ElementExamples
+pub mod Annotated

@@ -3,6 +3,7 @@
 
 mod copy;
 mod copy_units;
+pub mod headers;
 pub mod law;
 #[cfg(test)]
 mod tests;

@@ -1,6 +1,7 @@
 // The units of an interchange file, and whole programs (ANSI NCITS 319, 4.1).
-ghost use Rattle.std.specs.Prelude.{◌≡◌, [], ◌∷◌, ◌++◌, length, slice_get, OnOk, OnErr};
+ghost use Rattle.std.specs.Prelude.{◌≡◌, ◌+◌, ◌-◌, ◌<◌, ◌^◌, [], ◌∷◌, ◌++◌, length, slice_get, OnOk, OnErr};
 ghost use Rattle.std.specs.Option.{option_copied};
+ghost use Rattle.st_tree.specs.Numbers.{annotated, elements_of_kind, elements_of, elements_in, element_of};
 
 use crate::tree::{Body, Method};
 use sqlite_items::Items;
@@ -59,6 +60,29 @@ pub enum UnitKind {
     ClassMethod { class: Text, method: Method },
     /// The contents of the comments of one element, in their order.
     Comment(Items<Text>),
+}
+
+impl UnitKind {
+    // How many elements it takes: one, or two with a text.
+    fn elements(&self) -> usize
+        ensures { result ≡ elements_of_kind self.now }
+    {
+        match self {
+            UnitKind::Initializer { .. }
+            | UnitKind::PoolInitializer { .. }
+            | UnitKind::ProgramInitializer(_)
+            | UnitKind::Method { .. }
+            | UnitKind::ClassMethod { .. } => 2,
+            UnitKind::Version(_)
+            | UnitKind::Class(_)
+            | UnitKind::GlobalVariable(_)
+            | UnitKind::GlobalConstant(_)
+            | UnitKind::Pool(_)
+            | UnitKind::PoolVariable { .. }
+            | UnitKind::PoolConstant { .. }
+            | UnitKind::Comment(_) => 1,
+        }
+    }
 }
 
 /// A key with a value, which tools attach to a unit.
@@ -133,6 +157,21 @@ impl UnitList {
         Ok(self.units.push(unit)?)
     }
 
+    /// Adds an annotation to the last unit, where there is one. Where memory is wanted, nothing
+    /// changed.
+    pub fn annotate(&mut self, annotation: Annotation) -> Result<(), OutOfMemory>
+        ensures ok { OnOk result (self.new ≡ annotated self.old annotation) }
+        ensures err { OnErr result (self.new ≡ self.old) }
+    {
+        if self.units.as_slice().is_empty() {
+            return Ok(());
+        }
+        let Some(last) = self.units.last_mut() else {
+            return Ok(());
+        };
+        Ok(last.annotations.push(annotation)?)
+    }
+
     /// The allocator that the list was made with.
     pub(crate) fn allocator(&self) -> Global {
         *self.units.allocator()
@@ -143,4 +182,30 @@ impl UnitList {
 #[derive(Drop)]
 pub struct Definition {
     pub units: UnitList,
+}
+
+impl Unit {
+    /// How many elements it takes: one, or two with a text, and one for each annotation.
+    fn elements(&self) -> usize
+        requires { elements_of self.now < 2 ^ 64 }
+        ensures { result ≡ elements_of self.now }
+    {
+        self.kind.elements() + self.annotations.len()
+    }
+}
+
+impl Definition {
+    /// The number of the unit's first element in the file, from 1: one more than the elements of
+    /// the units before it.
+    pub fn element_of(&self, unit: usize) -> u32
+        requires there { unit < length self.now.units }
+        requires few { elements_in self.now.units < 2 ^ 32 - 1 }
+        ensures { result ≡ element_of self.now.units unit }
+    {
+        let mut number = 1;
+        for before in &self.units.as_slice()[..unit] {
+            number += before.elements() as u32;
+        }
+        number
+    }
 }
