@@ -16,6 +16,7 @@ use Rattle.st_parser.specs.declared.scan_state.Now.TheVariants as now
 use Rattle.st_parser.specs.declared.scan_state.Spot.TheVariants as spot
 use Rattle.st_parser.specs.declared.scan_state.Held.{Held}
 use Rattle.st_parser.specs.declared.scan_state.Owner.TheVariants as owner
+use Rattle.st_tree.specs.Symbols.{text_of}
 use Rattle.st_tree.specs.Grammar.{Production, AMethod, ABody}
 use Rattle.st_parser.specs.Scan.{apply_turn, turn_at, ends_at}
 
@@ -57,12 +58,9 @@ class_by kind.Caret t at = c.Caret
 class_by kind.Period t at = c.Period
 class_by kind.Semicolon t at = c.Semicolon
 
--- the bytes of a token
-abbrev pub bytes_of : List ℕ → Token → List ℕ
-bytes_of text t = take (t.end - t.start) (drop t.start text)
-
+-- what a token of the text is
 abbrev pub class_at : List ℕ → Token → Class
-class_at text t = class_by t.kind (bytes_of text t) t.start
+class_at text t = class_by t.kind (text_of text t) t.start
 
 -- whether an integer that begins here has a sign directly before it
 abbrev pub has_sign : Now → ℕ → Bool

@@ -1,17 +1,11 @@
 // What a token is to the grammar.
 
 ghost use Rattle.std.specs.Prelude.{◌≡◌};
-ghost use Rattle.std.specs.Str.{bytes_eq};
 ghost use Rattle.st_parser.specs.Finding as finding;
 
+use crate::cursor::{is_text, text_of};
 use crate::scan_state::Class;
 use st_base::{Token, TokenKind};
-
-fn is_text(text: &[u8], wanted: &[u8]) -> bool
-    ensures { result ≡ bytes_eq text.now wanted.now }
-{
-    text == wanted
-}
 
 #[tactic(auto, unfolding(crate::specs::Finding::word_class))]
 fn word_class(text: &[u8]) -> Class
@@ -74,22 +68,9 @@ fn class_by(kind: TokenKind, text: &[u8], at: u32) -> Class
     }
 }
 
-// The bytes of a token.
-fn bytes_of(text: &[u8], token: Token) -> &[u8]
-    ensures { result.now ≡ finding.bytes_of text.now token }
-{
-    let start = (token.start as usize).min(text.len());
-    let end = (token.end as usize).min(text.len());
-    if start <= end {
-        &text[start..end]
-    } else {
-        &text[start..start]
-    }
-}
-
 /// What a token of the text is to the grammar.
 pub fn class_at(text: &[u8], token: Token) -> Class
     ensures { result ≡ finding.class_at text.now token }
 {
-    class_by(token.kind, bytes_of(text, token), token.start)
+    class_by(token.kind, text_of(text, token), token.start)
 }

@@ -43,7 +43,8 @@ pub(crate) fn start_at(tokens: &[Token], at: usize) -> u32
     }
 }
 
-fn text_of(source: &[u8], token: Token) -> &[u8]
+/// The bytes of a token.
+pub(crate) fn text_of(source: &[u8], token: Token) -> &[u8]
     ensures { result.now ≡ text_of source.now token }
 {
     let start = (token.start as usize).min(source.len());
