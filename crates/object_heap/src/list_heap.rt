@@ -116,7 +116,12 @@ impl Heap for ListHeap {
         Ok(number)
     }
 
-    fn make_scope(&mut self, code: u32, variables: u32, outer: Option<u32>) -> Result<u32, HeapStop> {
+    fn make_scope(
+        &mut self,
+        code: u32,
+        variables: u32,
+        outer: Option<u32>,
+    ) -> Result<u32, HeapStop> {
         let used = used_after(self.used, self.limit, 1 + variables as u64)?;
         let scope = ListScope::blank(self.alloc, code, variables, outer)?;
         let number = self.scopes.len() as u32;
