@@ -1,8 +1,6 @@
 // The messages of Integer and Fraction: sums, quotients, comparisons and bits over all the numbers that fit, and the integer limit exactly where a number that a rule names does not.
 #![tactic(auto)]
 
-mod answer;
-mod compare;
 mod divisor;
 mod message;
 
