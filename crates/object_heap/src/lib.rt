@@ -11,3 +11,6 @@ pub use heap::{Heap, HeapStop};
 pub use list_heap::ListHeap;
 pub use trouble::Trouble;
 pub use value::{Closure, Value};
+
+#[cfg(test)]
+mod tests;
