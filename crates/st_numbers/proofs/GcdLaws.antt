@@ -1,16 +1,16 @@
 -- Euclid's steps give the greatest common divisor, and what follows of numbers without a common divisor.
 use Rattle.std.proofs.Common.{◌≡◌, ℕ, suc, zero, ◌+◌, ◌-◌, ◌*◌, ◌/◌, ◌%◌, ◌<◌, ◌≤◌, Bool, true, false, nat_eq, ◌==◌, if◌then◌else◌, refl, ap, sym, ◌∙◌, subst, arith}
 use Rattle.std.specs.Int.{IsGcd, ◌∣◌}
-use Rattle.std.proofs.lemmas.Nat.Gcd.{IsGcd-from_zero, IsGcd-from_mod, IsGcd-swap, same_from_IsGcd, dvd_refl, dvd_trans, dvd_antisymm, le_of_dvd}
-use Rattle.std.proofs.Math.Nat.{mul-zero, mul-one, mul_comm, mul-add, mul-pos, mul-lt-mul_of_pos_left, mod-eq_of_lt, eq_of_mul-eq-mul_left, mul_assoc, mul-div_cancel', mul-add-mod_self_left, dvd-mul_left, dvd-mul_right, eq-one_of_dvd-one}
+use Rattle.std.proofs.lemmas.Nat.Gcd.{IsGcd-from_zero, IsGcd-from_mod, IsGcd-swap, same_from_IsGcd, dvd_refl, dvd-zero, dvd_trans, dvd_antisymm, le_of_dvd}
+use Rattle.std.proofs.Math.Nat.{mul-mul-mul_comm, mul-div_cancel_left, mul-zero, mul-one, mul_comm, mul-add, mul-pos, mul-lt-mul_of_pos_left, mod-eq_of_lt, eq_of_mul-eq-mul_left, mul_assoc, mul-div_cancel', mul-add-mod_self_left, dvd-mul_left, dvd-mul_right, eq-one_of_dvd-one}
 use Rattle.std.proofs.Math.Dec.{eqb-suc-zero}
 use Rattle.st_numbers.specs.Gcd.{gcd_within, gcd}
 
-not_zero : (n : ℕ) → 0 < n → (n == 0) ≡ false
+pub not_zero : (n : ℕ) → 0 < n → (n == 0) ≡ false
 not_zero zero l = let none : ⊥ = omega (arith, l) in absurd none
 not_zero (suc n) l = eqb-suc-zero n
 
-ap2 : {A B C : Type 0} (f : A → B → C) {a a' : A} {b b' : B} → a ≡ a' → b ≡ b' → f a b ≡ f a' b'
+pub ap2 : {A B C : Type 0} (f : A → B → C) {a a' : A} {b b' : B} → a ≡ a' → b ≡ b' → f a b ≡ f a' b'
 ap2 f {a = a} {b' = b'} p q = ap (f a) q ∙ ap (λ x. f x b') p
 
 -- ---- Euclid
@@ -90,9 +90,11 @@ gcd-scaled k a b l =
 -- ---- numbers without a common divisor but 1
 
 -- what divides a product and has no common divisor with one factor divides the other
-pub divides_other : (a b c : ℕ) → gcd a b ≡ 1 → 0 < c → a ∣ b * c → a ∣ c
-divides_other a b c e l h =
-    let scaled : gcd (c * a) (c * b) ≡ c = gcd-scaled c a b l ∙ ap (λ g. c * g) e ∙ mul-one c in
+pub divides_other : (a b c : ℕ) → gcd a b ≡ 1 → a ∣ b * c → a ∣ c
+divides_other a b zero e h = dvd-zero a
+divides_other a b (suc c') e h =
+    let c : ℕ = suc c' in
+    let scaled : gcd (c * a) (c * b) ≡ c = gcd-scaled c a b (omega arith) ∙ ap (λ g. c * g) e ∙ mul-one c in
     let both : a ∣ gcd (c * a) (c * b) = gcd-greatest (c * a) (c * b) a (dvd-mul_left a c) (subst (λ n. a ∣ n) (mul_comm b c) h) in
     subst (λ n. a ∣ n) scaled both
 
@@ -101,10 +103,10 @@ coprime-divisor a b d e h =
     let one : gcd d b ∣ gcd a b = gcd-greatest a b (gcd d b) (dvd_trans (gcd d b) (gcd-divides_left d b) h) (gcd-divides_right d b) in
     eq-one_of_dvd-one (subst (λ n. gcd d b ∣ n) e one)
 
-pub coprime-product : (a b c : ℕ) → 0 < c → gcd a b ≡ 1 → gcd a c ≡ 1 → gcd a (b * c) ≡ 1
-coprime-product a b c l e f =
+pub coprime-product : (a b c : ℕ) → gcd a b ≡ 1 → gcd a c ≡ 1 → gcd a (b * c) ≡ 1
+coprime-product a b c e f =
     let with_b : gcd (gcd a (b * c)) b ≡ 1 = coprime-divisor a b (gcd a (b * c)) e (gcd-divides_left a (b * c)) in
-    let over : gcd a (b * c) ∣ c = divides_other (gcd a (b * c)) b c with_b l (gcd-divides_right a (b * c)) in
+    let over : gcd a (b * c) ∣ c = divides_other (gcd a (b * c)) b c with_b (gcd-divides_right a (b * c)) in
     let one : gcd a (b * c) ∣ gcd a c = gcd-greatest a c (gcd a (b * c)) (gcd-divides_left a (b * c)) over in
     eq-one_of_dvd-one (subst (λ n. gcd a (b * c) ∣ n) f one)
 
@@ -118,3 +120,52 @@ coprime-reduced a b l =
   where
     one_factor : (g n : ℕ) → 0 < g → g * n ≡ g → n ≡ 1
     one_factor g n l e = eq_of_mul-eq-mul_left g l n 1 (e ∙ sym (mul-one g))
+
+pub gcd-one_right : (n : ℕ) → gcd n 1 ≡ 1
+gcd-one_right n = eq-one_of_dvd-one (gcd-divides_right n 1)
+
+-- a number that isn't 0 stays so when it is divided by what divides it
+pub part-positive : (d n : ℕ) → 0 < n → d ∣ n → 0 < n / d
+part-positive d n l h = positive (n / d) (factor d n h)
+  where
+    positive : (q : ℕ) → n ≡ d * q → 0 < q
+    positive zero e = let none : ⊥ = omega (arith, e ∙ mul-zero d, l) in absurd none
+    positive (suc q) e = omega arith
+
+-- ---- products in lowest terms
+
+-- a divisor of each of two numbers without a common divisor
+pub coprime-parts : (a b c d : ℕ) → gcd a b ≡ 1 → c ∣ a → d ∣ b → gcd c d ≡ 1
+coprime-parts a b c d e h i = coprime-divisor' c b d (coprime-divisor a b c e h) i
+  where
+    coprime-divisor' : (a b d : ℕ) → gcd a b ≡ 1 → d ∣ b → gcd a d ≡ 1
+    coprime-divisor' a b d e h = gcd_comm a d ∙ coprime-divisor b a d (gcd_comm b a ∙ e) h
+
+-- a part of a number divides it
+pub part-divides : (d n : ℕ) → d ∣ n → n / d ∣ n
+part-divides d n h = subst (λ m. n / d ∣ m) (mul-div_cancel' d h) (dvd-mul_left (n / d) d)
+
+-- what two quotients in lowest terms have in common crosswise is all that their product has
+pub gcd-cross : (a b c d : ℕ) → gcd a b ≡ 1 → gcd c d ≡ 1 → 0 < b → 0 < d → gcd (a * c) (b * d) ≡ gcd a d * gcd c b
+gcd-cross a b c d e f lb ld =
+    let fa : a ≡ gcd a d * (a / gcd a d) = factor (gcd a d) a (gcd-divides_left a d) in
+    let fd : d ≡ gcd a d * (d / gcd a d) = factor (gcd a d) d (gcd-divides_right a d) in
+    let fc : c ≡ gcd c b * (c / gcd c b) = factor (gcd c b) c (gcd-divides_left c b) in
+    let fb : b ≡ gcd c b * (b / gcd c b) = factor (gcd c b) b (gcd-divides_right c b) in
+    let top : a * c ≡ gcd a d * gcd c b * (a / gcd a d * (c / gcd c b)) = ap2 ◌*◌ fa fc ∙ mul-mul-mul_comm (gcd a d) (a / gcd a d) (gcd c b) (c / gcd c b) in
+    let low : b * d ≡ gcd a d * gcd c b * (b / gcd c b * (d / gcd a d)) = ap2 ◌*◌ fb fd ∙ mul-mul-mul_comm (gcd c b) (b / gcd c b) (gcd a d) (d / gcd a d) ∙ ap (λ n. n * (b / gcd c b * (d / gcd a d))) (mul_comm (gcd c b) (gcd a d)) in
+    let a_d : gcd (a / gcd a d) (d / gcd a d) ≡ 1 = coprime-reduced a d ld in
+    let c_b : gcd (c / gcd c b) (b / gcd c b) ≡ 1 = coprime-reduced c b lb in
+    let a_b : gcd (a / gcd a d) (b / gcd c b) ≡ 1 = coprime-parts a b (a / gcd a d) (b / gcd c b) e (part-divides (gcd a d) a (gcd-divides_left a d)) (part-divides (gcd c b) b (gcd-divides_right c b)) in
+    let c_d : gcd (c / gcd c b) (d / gcd a d) ≡ 1 = coprime-parts c d (c / gcd c b) (d / gcd a d) f (part-divides (gcd c b) c (gcd-divides_left c b)) (part-divides (gcd a d) d (gcd-divides_right a d)) in
+    let one : gcd (a / gcd a d * (c / gcd c b)) (b / gcd c b * (d / gcd a d)) ≡ 1 = coprime-product (a / gcd a d * (c / gcd c b)) (b / gcd c b) (d / gcd a d) (coprime-left (a / gcd a d) (c / gcd c b) (b / gcd c b) a_b c_b) (coprime-left (a / gcd a d) (c / gcd c b) (d / gcd a d) a_d c_d) in
+    ap2 gcd top low ∙ gcd-scaled (gcd a d * gcd c b) (a / gcd a d * (c / gcd c b)) (b / gcd c b * (d / gcd a d)) (mul-pos (gcd-positive a d ld) (gcd-positive c b lb)) ∙ ap (λ g. gcd a d * gcd c b * g) one ∙ mul-one (gcd a d * gcd c b)
+  where
+    coprime-left : (x y z : ℕ) → gcd x z ≡ 1 → gcd y z ≡ 1 → gcd (x * y) z ≡ 1
+    coprime-left x y z p q = gcd_comm (x * y) z ∙ coprime-product z x y (gcd_comm z x ∙ p) (gcd_comm z y ∙ q)
+
+-- so the product in lowest terms is that of the parts
+pub product-parts : (m n f e : ℕ) → 0 < f → 0 < e → f ∣ m → e ∣ n → m * n / (f * e) ≡ m / f * (n / e)
+product-parts m n f e lf le hm hn =
+    let top : m * n ≡ f * e * (m / f * (n / e)) = ap2 ◌*◌ (factor f m hm) (factor e n hn) ∙ mul-mul-mul_comm f (m / f) e (n / e) in
+    ap (λ k. k / (f * e)) top ∙ mul-div_cancel_left (m / f * (n / e)) (mul-pos lf le)

@@ -1,1 +1,3 @@
 pub mod GcdLaws
+pub mod Comparisons
+pub mod Ranges

@@ -1,5 +1,5 @@
 -- What each message to a number answers.
-use Rattle.std.specs.Prelude.{ℕ, ℤ, pos, negsuc, ◌+◌, ◌*◌, ◌/◌, ◌%◌, ◌^◌, ◌+ℤ◌, ◌-ℤ◌, ◌*ℤ◌, neg_ℤ, unsigned_abs, nat_lt, ◌==◌, ◌&&◌, Bool, true, false, not, Option, Some, None, int_div, int_rem, if◌then◌else◌}
+use Rattle.std.specs.Prelude.{ℕ, ℤ, pos, negsuc, ◌+◌, ◌-◌, ◌*◌, ◌/◌, ◌%◌, ◌^◌, ◌+ℤ◌, ◌-ℤ◌, ◌*ℤ◌, neg_ℤ, unsigned_abs, nat_lt, ◌==◌, ◌&&◌, Bool, true, false, not, Option, Some, None, int_div, int_rem, if◌then◌else◌}
 use Rattle.std.specs.Int.{is_negative, int_signum, div_ceil, int_bit_and, int_bit_or, int_bit_xor, int_shr, w128}
 use Rattle.object_heap.specs.declared.value.Value.{Value}
 use Rattle.object_heap.specs.declared.trouble.Trouble.{Trouble}
@@ -38,10 +38,15 @@ quotient_answer negative n d = ratio_answer (signed negative (n / gcd n d)) (d /
 -- ---- sums, products and quotients of any two numbers
 
 -- a/b + c/d over the least denominator, where `plus` is the sum or the difference: each number on the way has to fit
+abbrev pub total_answer : (ℤ → ℤ → ℤ) → ℤ → ℤ → ℕ → NumberAnswer
+total_answer plus left right below =
+    if in_range (plus left right)
+    then quotient_answer (is_negative (plus left right)) (unsigned_abs (plus left right)) below
+    else NumberAnswer.IntegerLimit
+
 abbrev pub sum_over : (ℤ → ℤ → ℤ) → ℤ → ℤ → ℕ → NumberAnswer
 sum_over plus left right below =
-    if in_range left && in_range right && in_range (plus left right) && in_range (pos below)
-    then quotient_answer (is_negative (plus left right)) (unsigned_abs (plus left right)) below
+    if in_range left && in_range right && in_range (pos below) then total_answer plus left right below
     else NumberAnswer.IntegerLimit
 
 abbrev pub sum_answer : (ℤ → ℤ → ℤ) → Number → Number → NumberAnswer
@@ -125,6 +130,12 @@ floor_quotient x y =
 abbrev pub floor_answer : ℤ → ℤ → NumberAnswer
 floor_answer x y = if unsigned_abs y == 0 then zero_divide else integer_answer (floor_quotient x y)
 
+-- the size of what is left then, by whether the signs differ
+abbrev pub floor_rest : Bool → ℕ → ℕ → ℕ
+floor_rest differs size divisor =
+    if differs && not (size % divisor == 0) then divisor - size % divisor else size % divisor
+
+-- x - y * (x // y)
 abbrev pub modulo_answer : ℤ → ℤ → NumberAnswer
 modulo_answer x y = if unsigned_abs y == 0 then zero_divide else integer_answer (x -ℤ y *ℤ floor_quotient x y)
 

@@ -1,10 +1,12 @@
 // The greatest common divisor.
-ghost use Rattle.std.specs.Prelude.{◌≡◌};
+ghost use Rattle.std.specs.Prelude.{◌≡◌, ◌<◌, ◌/◌};
 ghost use Rattle.st_numbers.specs.Gcd.{gcd};
 
 /// The greatest number that divides both, or 0 where both are 0.
 pub fn greatest_divisor(a: u128, b: u128) -> u128
-    ensures { result ≡ gcd a b }
+    ensures divisor { result ≡ gcd a b }
+    ensures positive { 0 < b → 0 < result }
+    ensures part { 0 < b → 0 < b / result }
 {
     let mut high = a;
     let mut low = b;
