@@ -8,7 +8,7 @@ use Rattle.st_numbers.specs.declared.message.NumberArgument.{NumberArgument}
 use Rattle.st_numbers.specs.declared.message.NumberAnswer.{NumberAnswer}
 use Rattle.st_numbers.specs.declared.message.NumberMessage.{NumberMessage}
 use Rattle.st_numbers.specs.Gcd.{gcd}
-use Rattle.st_numbers.specs.Numbers.{in_range, signed, differ, numerator_of, denominator_of, is_less}
+use Rattle.st_numbers.specs.Numbers.{in_range, signed, differ, numerator_of, denominator_of, is_less, IsProper}
 
 abbrev pub number_expected : NumberAnswer
 number_expected = NumberAnswer.Trouble Trouble.NumberExpected
@@ -220,3 +220,12 @@ answer_of NumberMessage.Numerator x a = numerator_answer x
 answer_of NumberMessage.Denominator x a = denominator_answer x
 answer_of NumberMessage.Truncated x a = truncated_answer x
 answer_of NumberMessage.Reciprocal x a = reciprocal_answer x
+
+-- a Fraction that is answered stands in lowest terms, with a denominator of at least 2
+abbrev pub IsProperAnswer : NumberAnswer → Type 0
+IsProperAnswer (NumberAnswer.Value v) = Unit {0}
+IsProperAnswer (NumberAnswer.Fraction n d) = IsProper (Number.Fraction n d)
+IsProperAnswer NumberAnswer.Receiver = Unit {0}
+IsProperAnswer NumberAnswer.Argument = Unit {0}
+IsProperAnswer (NumberAnswer.Trouble t) = Unit {0}
+IsProperAnswer NumberAnswer.IntegerLimit = Unit {0}

@@ -1,13 +1,14 @@
 // What a message to a number answers.
-ghost use Rattle.std.specs.Prelude.{◌≡◌};
+ghost use Rattle.std.specs.Prelude.{◌≡◌, ◌↔◌, IsTrue};
 ghost use Rattle.object_heap.specs.declared.value.Value.{Value};
 ghost use Rattle.st_numbers.specs.Numbers.{IsProper, IsProperArgument};
-ghost use Rattle.st_numbers.specs.Answers.{answer_of};
+ghost use Rattle.st_numbers.specs.Answers.{answer_of, IsProperAnswer};
 ghost use Rattle.st_numbers.specs.declared.message.NumberArgument.{NumberArgument};
 
 use crate::answer::answer_truth;
 use crate::arithmetic::{add, divide, multiply, subtract};
 use crate::compare::{greater, is_below, lesser};
+use crate::divisor::greatest_divisor;
 use crate::integers::{
     bit_and, bit_or, bit_shift, bit_xor, floor_divide, gcd_message, lcm_message, modulo, quo, rem,
 };
@@ -26,12 +27,24 @@ pub fn number_message(
 ) -> NumberAnswer
     requires receiver { IsProper receiver }
     requires argument { IsProperArgument argument }
-    ensures { result ≡ answer_of message receiver argument }
+    ensures answer { result ≡ answer_of message receiver argument }
+    ensures proper { IsProperAnswer result }
 {
     match argument {
         NumberArgument::Number(other) => with_number(message, receiver, other),
         NumberArgument::None => alone(message, receiver),
         NumberArgument::Other(_) => alone(message, receiver),
+    }
+}
+
+/// Whether a number is an Integer, or a Fraction in lowest terms with a denominator of at least 2.
+pub fn is_proper(number: Number) -> bool
+    ensures { IsTrue result ↔ IsProper number }
+{
+    match number {
+        Number::Integer(_) => true,
+        Number::Fraction(n, d) => d >= 2
+            && greatest_divisor(n.unsigned_abs(), d.unsigned_abs()) == 1,
     }
 }
 

@@ -10,5 +10,5 @@ mod integers;
 mod message;
 mod unary;
 
-pub use dispatch::number_message;
+pub use dispatch::{is_proper, number_message};
 pub use message::{Number, NumberAnswer, NumberArgument, NumberMessage};
