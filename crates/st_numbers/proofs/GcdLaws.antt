@@ -1,8 +1,8 @@
 -- Euclid's steps give the greatest common divisor, and what follows of numbers without a common divisor.
-use Rattle.std.proofs.Common.{◌≡◌, ℕ, suc, zero, ◌+◌, ◌-◌, ◌*◌, ◌/◌, ◌%◌, ◌<◌, ◌≤◌, Bool, true, false, nat_eq, ◌==◌, if◌then◌else◌, refl, ap, sym, ◌∙◌, subst, arith}
+use Rattle.std.proofs.Common.{◌≡◌, ℕ, suc, zero, ◌+◌, ◌*◌, ◌/◌, ◌%◌, ◌<◌, false, ◌==◌, refl, ap, sym, ◌∙◌, subst, arith}
 use Rattle.std.specs.Int.{IsGcd, ◌∣◌}
-use Rattle.std.proofs.lemmas.Nat.Gcd.{IsGcd-from_zero, IsGcd-from_mod, IsGcd-swap, same_from_IsGcd, dvd_refl, dvd-zero, dvd_trans, dvd_antisymm, le_of_dvd}
-use Rattle.std.proofs.Math.Nat.{mul-mul-mul_comm, mul-div_cancel_left, mul-zero, mul-one, mul_comm, mul-add, mul-pos, mul-lt-mul_of_pos_left, mod-eq_of_lt, eq_of_mul-eq-mul_left, mul_assoc, mul-div_cancel', mul-add-mod_self_left, dvd-mul_left, dvd-mul_right, eq-one_of_dvd-one}
+use Rattle.std.proofs.lemmas.Nat.Gcd.{IsGcd-from_zero, IsGcd-from_mod, IsGcd-swap, same_from_IsGcd, dvd-zero, dvd_trans}
+use Rattle.std.proofs.Math.Nat.{mul-mul-mul_comm, mul-div_cancel_left, mul-zero, mul-one, mul_comm, mul-add, mul-pos, mul-lt-mul_of_pos_left, mod-eq_of_lt, eq_of_mul-eq-mul_left, mul_assoc, mul-div_cancel', mul-add-mod_self_left, dvd-mul_left, eq-one_of_dvd-one}
 use Rattle.std.proofs.Math.Dec.{eqb-suc-zero}
 use Rattle.st_numbers.specs.Gcd.{gcd_within, gcd}
 

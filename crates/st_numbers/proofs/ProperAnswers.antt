@@ -1,6 +1,6 @@
 -- Each Fraction that is answered stands in lowest terms.
-use Rattle.std.proofs.Common.{◌≡◌, ℕ, suc, zero, ◌+◌, ◌*◌, ◌/◌, ◌<◌, Bool, true, false, ◌==◌, ◌&&◌, not, if◌then◌else◌, refl, ap, sym, ◌∙◌, arith}
-use Rattle.std.specs.Prelude.{ℤ, pos, negsuc, neg_ℤ, int_div, int_rem, unsigned_abs, ◌≤ℤ◌, ◌+ℤ◌, ◌-ℤ◌, ◌*ℤ◌}
+use Rattle.std.proofs.Common.{◌≡◌, ℕ, suc, zero, ◌*◌, ◌/◌, ◌<◌, Bool, true, false, ◌==◌, ◌&&◌, not, if◌then◌else◌, refl, arith}
+use Rattle.std.specs.Prelude.{ℤ, pos, negsuc, neg_ℤ, int_div, int_rem, unsigned_abs, ◌+ℤ◌, ◌-ℤ◌, ◌*ℤ◌}
 use Rattle.std.specs.Int.{is_negative}
 use Rattle.std.proofs.lemmas.Bool.{eqb-false}
 use Rattle.std.proofs.lemmas.Int.{ints}
@@ -14,7 +14,7 @@ use Rattle.st_numbers.specs.Gcd.{gcd}
 use Rattle.st_numbers.specs.Numbers.{in_range, signed, differ, numerator_of, denominator_of, is_less, IsProper, IsProperArgument}
 use Rattle.st_numbers.specs.Answers
 use Rattle.st_numbers.specs.Answers.{IsProperAnswer, answer_of, integer_answer, ratio_answer, quotient_answer, total_answer, sum_over, sum_answer, product_answer, divide_answer, truth, given_number, given_integers, max_answer, min_answer, negated_answer, reciprocal_answer, floor_answer, modulo_answer, quo_answer, rem_answer, gcd_answer, lcm_answer, bit_and_answer, bit_or_answer, bit_xor_answer, shift_answer, zero_divide}
-use Rattle.st_numbers.proofs.GcdLaws.{gcd-positive, gcd-divides_right, part-positive, coprime-reduced, gcd_comm}
+use Rattle.st_numbers.proofs.GcdLaws.{gcd-divides_right, part-positive, coprime-reduced}
 
 abs-signed : (negative : Bool) (n : ℕ) → unsigned_abs (signed negative n) ≡ n
 abs-signed false n = refl

@@ -1,6 +1,6 @@
 -- Which numbers fit, where the code knows only that a size is too great.
-use Rattle.std.proofs.Common.{◌≡◌, ◌⊎◌, inl, inr, ℕ, suc, zero, ◌+◌, ◌-◌, ◌*◌, ◌/◌, ◌%◌, ◌^◌, ◌<◌, ◌≤◌, Bool, true, false, not, ◌==◌, ◌&&◌, if◌then◌else◌, nat_lt, refl, ap, sym, ◌∙◌, subst, arith, lit<, add-zero, add-one}
-use Rattle.std.specs.Prelude.{FitsSigned, Option, Some, None, ◌≢◌, ℤ, pos, negsuc, neg_ℤ, ◌-ℤ◌, ◌*ℤ◌, unsigned_abs, min}
+use Rattle.std.proofs.Common.{◌≡◌, ◌⊎◌, inl, inr, ℕ, suc, zero, ◌+◌, ◌*◌, ◌/◌, ◌%◌, ◌^◌, ◌<◌, ◌≤◌, Bool, true, false, not, ◌==◌, ◌&&◌, if◌then◌else◌, nat_lt, refl, ap, sym, ◌∙◌, arith, lit<, add-zero, add-one}
+use Rattle.std.specs.Prelude.{FitsSigned, Some, None, ◌≢◌, ℤ, pos, negsuc, neg_ℤ, ◌-ℤ◌, ◌*ℤ◌, unsigned_abs, min}
 use Rattle.std.specs.Int.{is_negative, div_ceil, int_shr, w128}
 use Rattle.std.proofs.lemmas.Bool.{eqb-true, eqb-false, lt-ltb, ltb-true, ltb-false}
 use Rattle.std.proofs.lemmas.Bool.Decides.{nat_tests}

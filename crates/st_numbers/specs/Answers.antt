@@ -1,5 +1,5 @@
 -- What each message to a number answers.
-use Rattle.std.specs.Prelude.{ℕ, ℤ, pos, negsuc, ◌+◌, ◌-◌, ◌*◌, ◌/◌, ◌%◌, ◌^◌, ◌+ℤ◌, ◌-ℤ◌, ◌*ℤ◌, neg_ℤ, unsigned_abs, nat_lt, ◌==◌, ◌&&◌, Bool, true, false, not, Option, Some, None, int_div, int_rem, if◌then◌else◌}
+use Rattle.std.specs.Prelude.{ℕ, ℤ, pos, negsuc, ◌+◌, ◌-◌, ◌*◌, ◌/◌, ◌%◌, ◌^◌, ◌+ℤ◌, ◌-ℤ◌, ◌*ℤ◌, neg_ℤ, unsigned_abs, ◌==◌, ◌&&◌, Bool, true, false, not, int_div, int_rem, if◌then◌else◌}
 use Rattle.std.specs.Int.{is_negative, int_signum, div_ceil, int_bit_and, int_bit_or, int_bit_xor, int_shr, w128}
 use Rattle.object_heap.specs.declared.value.Value.{Value}
 use Rattle.object_heap.specs.declared.trouble.Trouble.{Trouble}

@@ -1,7 +1,6 @@
 -- Integers and Fractions as numbers of any size, and which of them fit.
-use Rattle.std.specs.Prelude.{ℕ, ℤ, pos, negsuc, ◌+◌, ◌*◌, ◌/◌, ◌^◌, ◌≡◌, ◌<◌, ◌≤ℤ◌, ◌*ℤ◌, neg_ℤ, unsigned_abs, int_lt, nat_lt, Bool, true, false, not, Option, Some, None, if◌then◌else◌}
+use Rattle.std.specs.Prelude.{ℕ, ℤ, pos, negsuc, ◌^◌, ◌≡◌, ◌≤ℤ◌, ◌*ℤ◌, neg_ℤ, unsigned_abs, int_lt, nat_lt, Bool, true, false, not, if◌then◌else◌}
 use Rattle.std.specs.Int.{is_negative}
-use Rattle.object_heap.specs.declared.value.Value.{Value}
 use Rattle.st_numbers.specs.declared.message.Number.{Number}
 use Rattle.st_numbers.specs.declared.message.NumberArgument.{NumberArgument}
 use Rattle.st_numbers.specs.Gcd.{gcd}

@@ -20,7 +20,7 @@ pub fn floor_divide(x: Number, y: Number) -> NumberAnswer
     }
 }
 
-/// `\\\\`: what is left of `//`, with the sign of the divisor.
+/// `\\`: what is left of `//`, with the sign of the divisor.
 pub fn modulo(x: Number, y: Number) -> NumberAnswer
     ensures { result ≡ given_integers modulo_answer x y }
 {

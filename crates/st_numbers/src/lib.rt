@@ -12,3 +12,6 @@ mod unary;
 
 pub use dispatch::{is_proper, number_message};
 pub use message::{Number, NumberAnswer, NumberArgument, NumberMessage};
+
+#[cfg(test)]
+mod tests;

@@ -1,4 +1,4 @@
-use Rattle.std.proofs.Common.{◌≡◌, ◌∙◌, sym, ◌+ℤ◌}
+use Rattle.std.proofs.Common.{◌∙◌, ◌+ℤ◌}
 use Rattle.st_numbers.proofs.Ranges.{sum-of-terms}
 use Rattle.st_numbers.proofs.arithmetic.add.Goals as goal
 

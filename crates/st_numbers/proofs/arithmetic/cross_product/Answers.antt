@@ -1,4 +1,4 @@
-use Rattle.std.proofs.Common.{◌≡◌, ◌*◌, ◌/◌, ◌≤◌, ◌^◌, ℕ, sym, ◌∙◌, arith}
+use Rattle.std.proofs.Common.{◌*◌, ◌/◌, arith}
 use Rattle.st_numbers.specs.Numbers.{signed}
 use Rattle.st_numbers.proofs.Ranges.{top-limit, bottom-limit, product-crosswise}
 use Rattle.st_numbers.proofs.arithmetic.cross_product.Goals as goal

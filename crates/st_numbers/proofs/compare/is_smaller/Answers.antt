@@ -1,4 +1,4 @@
-use Rattle.std.proofs.Common.{◌≡◌, ◌*◌, ◌/◌, ◌%◌, ◌<◌, nat_lt, false, true, sym, ◌∙◌, ap, arith}
+use Rattle.std.proofs.Common.{◌∙◌, arith}
 use Rattle.st_numbers.proofs.Comparisons.{whole-decides, rests-decide, no-rest, only-rest}
 use Rattle.st_numbers.proofs.compare.is_smaller.Goals as goal
 

@@ -1,4 +1,4 @@
-use Rattle.std.proofs.Common.{◌≡◌, ◌*◌, ◌/◌, ◌≤◌, ◌^◌, false, sym, ◌∙◌, arith}
+use Rattle.std.proofs.Common.{false, arith}
 use Rattle.st_numbers.proofs.Ranges.{multiple-is, integer-limit}
 use Rattle.st_numbers.proofs.integers.answer_multiple.Goals as goal
 
