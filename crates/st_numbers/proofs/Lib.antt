@@ -1,0 +1,4 @@
+pub mod GcdLaws
+pub mod Comparisons
+pub mod Ranges
+pub mod ProperAnswers
