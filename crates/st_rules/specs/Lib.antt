@@ -1,0 +1,15 @@
+pub mod Texts
+pub mod Program
+pub mod Events
+pub mod State
+pub mod Messages
+pub mod BuiltIns
+pub mod Lookup
+pub mod Actions
+pub mod Kinds
+pub mod ObjectRows
+pub mod Numbers
+pub mod NumberRows
+pub mod TextRows
+pub mod SequenceRows
+pub mod ExceptionRows

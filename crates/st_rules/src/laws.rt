@@ -1,0 +1,3 @@
+// Functions without a body whose contracts are laws of the rules.
+
+pub fn nothing() {}
