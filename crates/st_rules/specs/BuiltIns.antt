@@ -1,8 +1,8 @@
 -- The built-in classes by number, and the table of built-in messages (ANSI 5): class, side, selector, and what it does.
-use Rattle.std.specs.Prelude.{ℕ, ◌+◌, Bool, true, false, ◌&&◌, List, [], ◌∷◌, ◌++◌, Option, Some, None, nat_eq, codes, if◌then◌else◌}
+use Rattle.std.specs.Prelude.{ℕ, ◌+◌, Bool, true, false, ◌&&◌, List, [], ◌∷◌, ◌++◌, map, Option, Some, None, nat_eq, codes, if◌then◌else◌}
 use Prim.Native.String.{String}
 use Rattle.st_rules.specs.Texts.{Text, same_text}
-use Rattle.st_rules.specs.Program.{Side, OfInstance, OfClass, OfMeta, same_side}
+use Rattle.st_rules.specs.Program.{Side, OfInstance, OfClass, OfMeta, same_side, ClassRow, NoIndexes}
 use Rattle.st_rules.specs.Messages.{ObjectMessage, ClassMessage, BooleanMessage, NumberMessage, CharacterMessage, TranscriptMessage, StringMessage, SequenceMessage, CollectionMessage, BlockMessage, Control, ExceptionMessage, LoopMessage, Row, Objects, Classes, Booleans, Numbers, Characters, Transcripts, Strings, Sequences, Collections, Blocks, Exceptions, Loops, Slots}
 
 -- a built-in class: its name, the number of its superclass, and how many named slots its instances have
@@ -137,6 +137,14 @@ built_in_classes =
     built "MessageNotUnderstood" (Some error_class) 3 ∷
     built "Warning" (Some notification_class) 1 ∷
     built "ExceptionSet" (Some object_class) 0 ∷ []
+
+abbrev row_of : BuiltInClass → ClassRow
+row_of c = record { name = c.name; superclass = c.superclass; in_file = false; indexed = NoIndexes; slots = c.slots; class_slots = 0 }
+
+-- the first classes of every program
+unfoldable pub built_in_class_rows : List ClassRow
+unfolding built_in_classes
+built_in_class_rows = map row_of built_in_classes
 
 -- a selector with what it does
 pub record RowAt : Type 0 where

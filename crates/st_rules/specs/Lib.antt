@@ -13,3 +13,9 @@ pub mod NumberRows
 pub mod TextRows
 pub mod SequenceRows
 pub mod ExceptionRows
+pub mod Loops
+pub mod Sends
+pub mod Ends
+pub mod Literals
+pub mod Rules
+pub mod Runs

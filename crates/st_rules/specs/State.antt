@@ -51,17 +51,16 @@ pub record Turn : Type 0 where
   pub resume_point : ℕ
   pub signal : ℕ
 
--- what stands: bodies, `on:do:`, `ensure:`, `ifCurtailed:`, signals, outer points, turns, loops and waits
+-- what stands: bodies, `on:do:`, `ensure:` and `ifCurtailed:` (whose action is a termination block), signals, outer points, turns, loops and waits
 pub data Mark : Type 0 where
-  BodyMark ProtectMark EnsureMark CurtailMark LoopMark WaitMark OuterMark : (number : ℕ) → Mark
+  BodyMark ProtectMark ActionMark LoopMark WaitMark OuterMark : (number : ℕ) → Mark
   SignalMark : (number exception : ℕ) → Mark
   TurnMark : (number : ℕ) → Turn → Mark
 
 abbrev pub number_of_mark : Mark → ℕ
 number_of_mark (BodyMark n) = n
 number_of_mark (ProtectMark n) = n
-number_of_mark (EnsureMark n) = n
-number_of_mark (CurtailMark n) = n
+number_of_mark (ActionMark n) = n
 number_of_mark (LoopMark n) = n
 number_of_mark (WaitMark n) = n
 number_of_mark (OuterMark n) = n

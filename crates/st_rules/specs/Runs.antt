@@ -1,0 +1,59 @@
+-- The run of a program by the rules: its initializers in file order, and the ending.
+use Rattle.std.specs.Prelude.{◌≡◌, ℕ, List, [], ◌∷◌, length, replicate, Option, Some, None}
+use Rattle.object_heap.specs.declared.value.Value.{Value}
+use Rattle.object_heap.specs.declared.value.Value.TheVariants.{Nil}
+use Rattle.st_rules.specs.Program.{Program, Body, Initializer, body_at, Shared}
+use Rattle.st_rules.specs.State.{State, Target, Terminate, Limit, DepthLimit, CellLimit, Outcome, Answer, Go, Stop, with_store, stood, used, first_variables, scope_cells, with_scope}
+use Rattle.st_rules.specs.Ends.{Result, Yields, charged, then_value, stop, initializer_frame}
+use Rattle.st_rules.specs.Rules.{Next, RunBody, at_index}
+use Rattle.std.specs.Prelude.{slice_set}
+
+-- how a run ends: done, with an exception that nothing handled, at a limit; `Stuck` comes never
+pub data Ending : Type 0 where
+  Done : Ending
+  Unhandled : Value → Ending
+  AtLimit : Limit → Ending
+  Stuck : Ending
+
+-- the literals stand, all variables are nil, nothing is counted, and activations are numbered from 1
+unfoldable pub first_state : Program → State
+first_state p =
+    record {
+      store = record { objects = p.literals; closures = []; scopes = [] };
+      variables = replicate p.variables Nil;
+      transcript = [];
+      events = [];
+      steps = 0;
+      depth = 0;
+      cells = 0;
+      next = 1;
+    }
+
+-- the value of an initializer is kept where it initializes a variable
+abbrev pub kept_value : Option ℕ → Value → State → State
+kept_value (Some place) v st = record st { variables = slice_set st.variables place v }
+kept_value None v st = st
+
+module _ (p : Program) (next : Next) where
+  abbrev pub run_from : List Initializer → State → Result
+  run_from [] st = Yields (Answer Nil) st
+  run_from (x ∷ xs) st =
+      charged (stood p [] st) (stop DepthLimit st) (λ st1.
+      charged (used p (scope_cells (body_at p x.code)) st1) (stop CellLimit st1) (λ st2.
+      then_value (next.use' (RunBody x.code (initializer_frame (body_at p x.code) x.self st.next st2.store) []) [] (with_store st2 (with_scope st2.store x.code None (first_variables (body_at p x.code).captured [])))) (λ v st3. run_from xs (kept_value x.target v st3))))
+
+abbrev pub ending_of : Target → Value → Ending
+ending_of Terminate v = Unhandled v
+ending_of _ v = Stuck
+
+abbrev pub end_of : Outcome → Ending
+end_of (Answer v) = Done
+end_of (Go t v) = ending_of t v
+end_of (Stop l) = AtLimit l
+
+-- the program ends so, in this state: with its Transcript, events and counts
+pub record Runs (p : Program) (e : Ending) (st : State) : Type 0 where
+  pub index : ℕ
+  pub outcome : Outcome
+  pub run : run_from p (at_index p index) p.initializers (first_state p) ≡ Yields outcome st
+  pub ends : end_of outcome ≡ e
