@@ -6,9 +6,9 @@ use Rattle.object_heap.specs.declared.value.Closure.{Closure}
 use Rattle.object_heap.specs.declared.trouble.Trouble.{Trouble}
 use Rattle.object_heap.specs.Troubles.{place_of}
 use Rattle.object_heap.specs.Store.{Store, with_slot, block_added}
-use Rattle.st_rules.specs.Program.{Program, Place, Scoped, Slot, ClassSlot, Shared, Kind, InMethod, InBlock, InInitializer, Body, ClassRow, class_at, number_of}
+use Rattle.st_rules.specs.Program.{Program, Place, Scoped, Slot, ClassSlot, Shared, Kind, InMethod, InBlock, InInitializer, Body, ClassRow, Initializer, body_at, class_at, number_of}
 use Rattle.st_rules.specs.Events.{Event}
-use Rattle.st_rules.specs.State.{State, Entry, Env, Target, Home, Protected, Retry, RetryWith, Resume, Resignal, Terminate, Limit, Outcome, Answer, Go, Stop, Turn, Mark, Frame, with_store, told, scoped_variable, with_scoped_variable, is_at_signal}
+use Rattle.st_rules.specs.State.{State, Entry, Env, Target, Home, Protected, Retry, RetryWith, Resume, Resignal, Terminate, Limit, Outcome, Answer, Go, Stop, Turn, Mark, Frame, with_store, told, scoped_variable, with_scoped_variable, first_variables, with_scope, is_at_signal}
 use Rattle.st_rules.specs.BuiltIns.{array_class, block_class, message_class}
 use Rattle.st_rules.specs.Actions.{next_object, with_new}
 use Rattle.st_rules.specs.Kinds.{slot_of}
@@ -86,16 +86,36 @@ with_arguments args s = with_new array_class args [] s
 unfoldable pub with_message : (selector : ℕ) → (array : Value) → Store → Store
 with_message selector array s = with_new message_class (Symbol selector ∷ array ∷ []) [] s
 
--- ---- frames
+-- ---- bodies that are opened
 
-abbrev pub block_frame : Closure → ℕ → Store → Frame
-block_frame c own s = record { kind = InBlock; self = c.receiver; class = c.class; own = own; home = c.home; scope = Some (length s.scopes) }
+-- the activation of a body: its code, what it is, self, the class that it is written in, its number, that of its home, the scope around it, its arguments and its environment
+pub record Opening : Type 0 where
+  pub code : ℕ
+  pub kind : Kind
+  pub self : Value
+  pub class : Value
+  pub own : ℕ
+  pub home : ℕ
+  pub outer : Option ℕ
+  pub arguments : List Value
+  pub env : Env
 
-abbrev pub method_frame : Body → Value → ℕ → Store → Frame
-method_frame body self own s = record { kind = InMethod; self = self; class = body.class; own = own; home = own; scope = Some (length s.scopes) }
+abbrev pub block_opening : Closure → List Value → Env → ℕ → Opening
+block_opening c args env own = record { code = c.code; kind = InBlock; self = c.receiver; class = c.class; own = own; home = c.home; outer = c.scope; arguments = args; env = env }
 
-abbrev pub initializer_frame : Body → Value → ℕ → Store → Frame
-initializer_frame body self own s = record { kind = InInitializer; self = self; class = body.class; own = own; home = own; scope = Some (length s.scopes) }
+abbrev pub method_opening : Program → ℕ → Value → List Value → Env → ℕ → Opening
+method_opening p code self args env own = record { code = code; kind = InMethod; self = self; class = (body_at p code).class; own = own; home = own; outer = None; arguments = args; env = env }
+
+abbrev pub initializer_opening : Program → Initializer → ℕ → Opening
+initializer_opening p x own = record { code = x.code; kind = InInitializer; self = x.self; class = (body_at p x.code).class; own = own; home = own; outer = None; arguments = []; env = [] }
+
+-- its frame, whose scope is the next one that is made
+abbrev pub frame_of : Opening → Store → Frame
+frame_of x s = record { code = x.code; kind = x.kind; self = x.self; class = x.class; own = x.own; home = x.home; scope = Some (length s.scopes) }
+
+-- the store with its scope
+unfoldable pub with_opened : Program → Opening → Store → Store
+with_opened p x s = with_scope s x.code x.outer (first_variables (body_at p x.code).captured x.arguments)
 
 -- ---- outcomes at activations
 

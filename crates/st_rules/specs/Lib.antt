@@ -19,3 +19,4 @@ pub mod Ends
 pub mod Literals
 pub mod Rules
 pub mod Runs
+pub mod Code

@@ -8,7 +8,7 @@ use Rattle.object_heap.specs.declared.trouble.Trouble.TheVariants.{NotFound, Exc
 use Rattle.object_heap.specs.Store.{Store, object_at}
 use Rattle.st_rules.specs.Program.{Tree, Constant, Self, Variable, Assign, Block, Send, SuperSend, Cascade, SuperCascade, Trees, no_trees, more_trees, Messages, no_messages, more_messages, Statement, Plain, Return, Kind, InMethod, InBlock, InInitializer, Body, ClassRow, Program, body_at, class_at, number_of}
 use Rattle.st_rules.specs.Events.{Event}
-use Rattle.st_rules.specs.State.{State, Entry, Env, Home, Protected, Retry, RetryWith, Resume, Resignal, Terminate, StepLimit, DepthLimit, CellLimit, IntegerLimit, Outcome, Answer, Go, Stop, Turn, Mark, BodyMark, ProtectMark, ActionMark, LoopMark, WaitMark, OuterMark, SignalMark, TurnMark, Frame, with_store, told, step_made, stood, used, first_variables, scope_cells, with_scope, stands, is_live, FoundTurn, NoTurn, TurnAt, turn_of}
+use Rattle.st_rules.specs.State.{State, Entry, Env, Home, Protected, Retry, RetryWith, Resume, Resignal, Terminate, StepLimit, DepthLimit, CellLimit, IntegerLimit, Outcome, Answer, Go, Stop, Turn, Mark, BodyMark, ProtectMark, ActionMark, LoopMark, WaitMark, OuterMark, SignalMark, TurnMark, Frame, with_store, told, step_made, stood, used, scope_cells, stands, is_live, FoundTurn, NoTurn, TurnAt, turn_of}
 use Rattle.st_rules.specs.BuiltIns.{error_class, zero_divide_class}
 use Rattle.st_rules.specs.Messages.{Control}
 use Rattle.st_rules.specs.Lookup.{is_plain, fits, is_exception}
@@ -17,7 +17,7 @@ use Rattle.st_rules.specs.Kinds.{is_true}
 use Rattle.st_rules.specs.ExceptionRows.{closure_of, parameters_of}
 use Rattle.st_rules.specs.Loops.{first_visit, next_visit}
 use Rattle.st_rules.specs.Sends.{send_action, super_action}
-use Rattle.st_rules.specs.Ends.{Result, Yields, NoIndex, charged, handle, then_value, stop, ended, trouble_text, read_place, write_place, with_block, with_arguments, with_message, block_frame, method_frame, body_end, left_end, turn_end, outer_end, SignalVerdict, Ends, Signals, signal_end, Verdict, Leaves, Again, protect_end, action_end, Purpose, ForPass, ForOuter, ForNested, Search, signal_search, turn_search, turn_for, asks_nested, Wait, ToResume, ToOuter, onto}
+use Rattle.st_rules.specs.Ends.{Result, Yields, NoIndex, charged, handle, then_value, stop, ended, trouble_text, read_place, write_place, with_block, with_arguments, with_message, Opening, block_opening, method_opening, frame_of, with_opened, body_end, left_end, turn_end, outer_end, SignalVerdict, Ends, Signals, signal_end, Verdict, Leaves, Again, protect_end, action_end, Purpose, ForPass, ForOuter, ForNested, Search, signal_search, turn_search, turn_for, asks_nested, Wait, ToResume, ToOuter, onto}
 
 -- a use of a rule: an application; the activation of a closure and of a method; a send; what a message does at once; the signal of an exception that is there, of one that is made at its signal point, the search at a signal point, and the signal of another exception in its place; a search; the turn that it begins; the send of `isResumable`; `on:do:`; a termination block; a loop; a body
 pub data Use : Type 0 where
@@ -37,7 +37,7 @@ pub data Use : Type 0 where
   Protect : (receiver : Value) → Entry → Env → Use
   Finish : (number : ℕ) → (block : Value) → (held : Outcome) → Env → Use
   VisitBy : (number : ℕ) → Visit → Env → Use
-  RunBody : (code : ℕ) → Frame → Env → Use
+  RunBody : Frame → Env → Use
 
 -- what is used at the smaller index: rules, and expressions in a frame
 pub record Next : Type 0 where
@@ -100,6 +100,13 @@ module _ (p : Program) (next : Next) where
   abbrev pub handler_by : Option Closure → Value → (exception : ℕ) → Env → Use
   handler_by (Some c) handler e env = Activate c [] env
   handler_by None handler e env = Apply handler (Object e ∷ []) env
+
+  -- the activation of a body: it stands, and its scope is charged
+  abbrev pub opened : Opening → List Mark → State → Result
+  opened x standing st =
+      charged (stood p standing st) (stop DepthLimit st) (λ st1.
+      charged (used p (scope_cells (body_at p x.code)) st1) (stop CellLimit st1) (λ st2.
+      next.use' (RunBody (frame_of x st2.store) x.env) standing (with_store st2 (with_opened p x st2.store))))
 
   -- ---- signals
 
@@ -328,14 +335,8 @@ module _ (p : Program) (next : Next) where
   abbrev pub rule : Use → List Mark → State → Result
   rule (Apply v args env) standing st = next.use' (apply_by (closure_for p st.store v (length args)) v args env) standing st
   rule (Activate c args env) standing st =
-      charged (step_made p st) (stop StepLimit st) (λ st1.
-      charged (stood p standing st1) (stop DepthLimit st1) (λ st2.
-      charged (used p (scope_cells (body_at p c.code)) st2) (stop CellLimit st2) (λ st3.
-      next.use' (RunBody c.code (block_frame c st1.next st3.store) env) standing (with_store st3 (with_scope st3.store c.code c.scope (first_variables (body_at p c.code).captured args))))))
-  rule (Enter code r args env) standing st =
-      charged (stood p standing st) (stop DepthLimit st) (λ st1.
-      charged (used p (scope_cells (body_at p code)) st1) (stop CellLimit st1) (λ st2.
-      next.use' (RunBody code (method_frame (body_at p code) r st.next st2.store) env) standing (with_store st2 (with_scope st2.store code None (first_variables (body_at p code).captured args)))))
+      charged (step_made p st) (stop StepLimit st) (λ st1. opened (block_opening c args env st1.next) standing st1)
+  rule (Enter code r args env) standing st = opened (method_opening p code r args env st.next) standing st
   rule (SendTo selector r args env) standing st =
       charged (step_made p st) (stop StepLimit st) (λ st1. next.use' (Perform (send_action p st1.store selector r args) env) standing st1)
   rule (SuperTo class selector r args env) standing st =
@@ -357,8 +358,8 @@ module _ (p : Program) (next : Next) where
   rule (Finish n block held env) standing st =
       handle (next.use' (Apply block [] env) (ActionMark n ∷ standing) st) (λ o st'. Yields (action_end held o) (ended n (action_end held o) st'))
   rule (VisitBy n v env) standing st = visit n v env standing st
-  rule (RunBody code f env) standing st =
-      handle (eval_body f env (BodyMark f.own ∷ standing) (body_at p code).statements Nil st) (λ o st'. Yields (body_end f o) st')
+  rule (RunBody f env) standing st =
+      handle (eval_body f env (BodyMark f.own ∷ standing) (body_at p f.code).statements Nil st) (λ o st'. Yields (body_end f o) st')
 
   abbrev pub tree_rule : Tree → Frame → Env → List Mark → State → Result
   tree_rule t f env standing st = eval f env standing t st

@@ -3,9 +3,9 @@ use Rattle.std.specs.Prelude.{◌≡◌, ℕ, List, [], ◌∷◌, length, repli
 use Rattle.object_heap.specs.declared.value.Value.{Value}
 use Rattle.object_heap.specs.declared.value.Value.TheVariants.{Nil}
 use Rattle.st_rules.specs.Program.{Program, Body, Initializer, body_at, Shared}
-use Rattle.st_rules.specs.State.{State, Target, Terminate, Limit, DepthLimit, CellLimit, Outcome, Answer, Go, Stop, with_store, stood, used, first_variables, scope_cells, with_scope}
-use Rattle.st_rules.specs.Ends.{Result, Yields, charged, then_value, stop, initializer_frame}
-use Rattle.st_rules.specs.Rules.{Next, RunBody, at_index}
+use Rattle.st_rules.specs.State.{State, Target, Terminate, Limit, DepthLimit, CellLimit, Outcome, Answer, Go, Stop}
+use Rattle.st_rules.specs.Ends.{Result, Yields, charged, then_value, stop, initializer_opening}
+use Rattle.st_rules.specs.Rules.{Next, opened, at_index}
 use Rattle.std.specs.Prelude.{slice_set}
 
 -- how a run ends: done, with an exception that nothing handled, at a limit; `Stuck` comes never
@@ -37,10 +37,7 @@ kept_value None v st = st
 module _ (p : Program) (next : Next) where
   abbrev pub run_from : List Initializer → State → Result
   run_from [] st = Yields (Answer Nil) st
-  run_from (x ∷ xs) st =
-      charged (stood p [] st) (stop DepthLimit st) (λ st1.
-      charged (used p (scope_cells (body_at p x.code)) st1) (stop CellLimit st1) (λ st2.
-      then_value (next.use' (RunBody x.code (initializer_frame (body_at p x.code) x.self st.next st2.store) []) [] (with_store st2 (with_scope st2.store x.code None (first_variables (body_at p x.code).captured [])))) (λ v st3. run_from xs (kept_value x.target v st3))))
+  run_from (x ∷ xs) st = then_value (opened p next (initializer_opening p x st.next) [] st) (λ v st1. run_from xs (kept_value x.target v st1))
 
 abbrev pub ending_of : Target → Value → Ending
 ending_of Terminate v = Unhandled v

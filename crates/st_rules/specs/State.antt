@@ -67,8 +67,9 @@ number_of_mark (OuterMark n) = n
 number_of_mark (SignalMark n e) = n
 number_of_mark (TurnMark n t) = n
 
--- the frame of a body: what it is, self, the class that it is written in, its own number, the number of its home, and its scope
+-- the frame of a body: its code, what it is, self, the class that it is written in, its own number, the number of its home, and its scope
 pub record Frame : Type 0 where
+  pub code : ℕ
   pub kind : Kind
   pub self : Value
   pub class : Value
