@@ -20,3 +20,6 @@ pub mod Literals
 pub mod Rules
 pub mod Runs
 pub mod Code
+pub mod Machine
+pub mod Scoped
+pub mod Turns

@@ -86,21 +86,21 @@ fitting p (Some c) count = elim (nat_eq (parameters_of p c) count) [ true ↦ So
 unfoldable pub closure_for : Program → Store → Value → ℕ → Option Closure
 closure_for p s v count = fitting p (closure_of s v) count
 
+-- the signal of a new Error with the text of a trouble
+abbrev pub fail : Program → Trouble → Env → Use
+fail p trouble env = RaiseNew error_class (trouble_text p trouble ∷ []) env
+
+-- a closure that takes so many values is activated; to anything else `value` and its kin are sent
+abbrev pub apply_by : Program → Option Closure → Value → List Value → Env → Use
+apply_by p (Some c) v args env = Activate c args env
+apply_by p None v args env = SendTo (value_selector p (length args)) v args env
+
+-- a handler without parameters is applied to nothing
+abbrev pub handler_by : Option Closure → Value → (exception : ℕ) → Env → Use
+handler_by (Some c) handler e env = Activate c [] env
+handler_by None handler e env = Apply handler (Object e ∷ []) env
+
 module _ (p : Program) (next : Next) where
-  -- the signal of a new Error with the text of a trouble
-  abbrev pub fail : Trouble → Env → Use
-  fail trouble env = RaiseNew error_class (trouble_text p trouble ∷ []) env
-
-  -- a closure that takes so many values is activated; to anything else `value` and its kin are sent
-  abbrev pub apply_by : Option Closure → Value → List Value → Env → Use
-  apply_by (Some c) v args env = Activate c args env
-  apply_by None v args env = SendTo (value_selector p (length args)) v args env
-
-  -- a handler without parameters is applied to nothing
-  abbrev pub handler_by : Option Closure → Value → (exception : ℕ) → Env → Use
-  handler_by (Some c) handler e env = Activate c [] env
-  handler_by None handler e env = Apply handler (Object e ∷ []) env
-
   -- the activation of a body: it stands, and its scope is charged
   abbrev pub opened : Opening → List Mark → State → Result
   opened x standing st =
@@ -118,7 +118,7 @@ module _ (p : Program) (next : Next) where
   signal_after n e env standing o st = signal_by n e (signal_end n o) env standing st
 
   abbrev pub raise : Bool → ℕ → Env → List Mark → State → Result
-  raise true e env standing st = next.use' (fail AlreadySignaled env) standing st
+  raise true e env standing st = next.use' (fail p AlreadySignaled env) standing st
   raise false e env standing st =
       charged (stood p standing st) (stop DepthLimit st) (λ st1.
       next.use' (SignalPoint st.next e env) standing (told (Event.Signal st.next) st1))
@@ -180,7 +180,7 @@ module _ (p : Program) (next : Next) where
 
   abbrev pub asked : Bool → Wait → ℕ → Turn → Env → List Mark → State → Result
   asked true (ToResume v) k t env standing st = Yields (Go (Resume t.resume_point) v) st
-  asked false (ToResume v) k t env standing st = next.use' (fail NotResumable env) standing st
+  asked false (ToResume v) k t env standing st = next.use' (fail p NotResumable env) standing st
   asked true ToOuter k t env standing st =
       charged (stood p standing st) (stop DepthLimit st) (λ st1.
       handle (pass k t.exception t (ForOuter t st.next) (OuterMark st.next ∷ standing) (told (Event.Outer st.next) st1)) (outer_after st.next standing))
@@ -192,13 +192,13 @@ module _ (p : Program) (next : Next) where
   wait_after w k t env standing (Stop l) st = Yields (Stop l) st
 
   abbrev pub resignal : Bool → Bool → Turn → ℕ → Value → Env → List Mark → State → Result
-  resignal false live t f v env standing st = next.use' (fail ExceptionExpected env) standing st
-  resignal true true t f v env standing st = next.use' (fail AlreadySignaled env) standing st
+  resignal false live t f v env standing st = next.use' (fail p ExceptionExpected env) standing st
+  resignal true true t f v env standing st = next.use' (fail p AlreadySignaled env) standing st
   resignal true false t f v env standing st = Yields (Go (Resignal t.signal f) v) st
 
   abbrev pub resignal_as : Turn → Value → Env → List Mark → State → Result
   resignal_as t (Object f) env standing st = resignal (is_exception p st.store (Object f)) (is_live f standing) t f (Object f) env standing st
-  resignal_as t v env standing st = next.use' (fail ExceptionExpected env) standing st
+  resignal_as t v env standing st = next.use' (fail p ExceptionExpected env) standing st
 
   -- a control message in a turn with this entry
   abbrev pub control_by : Control → Value → ℕ → Turn → Entry → Env → List Mark → State → Result
@@ -214,14 +214,14 @@ module _ (p : Program) (next : Next) where
   -- in a turn of a default action only `resume` and `resume:` are active
   abbrev pub control_without : Control → Value → ℕ → Turn → Env → List Mark → State → Result
   control_without Control.Resume v k t env standing st = next.use' (Ask (ToResume v) k t env) standing st
-  control_without _ v k t env standing st = next.use' (fail NotActive env) standing st
+  control_without _ v k t env standing st = next.use' (fail p NotActive env) standing st
 
   abbrev pub control_in : Option Entry → Control → Value → ℕ → Turn → Env → List Mark → State → Result
   control_in (Some entry) control v k t env standing st = control_by control v k t entry env standing st
   control_in None control v k t env standing st = control_without control v k t env standing st
 
   abbrev pub control : FoundTurn → Control → Value → Env → List Mark → State → Result
-  control NoTurn c v env standing st = next.use' (fail NotActive env) standing st
+  control NoTurn c v env standing st = next.use' (fail p NotActive env) standing st
   control (TurnAt k t) c v env standing st = control_in t.entry c v k t env standing st
 
   -- ---- protection
@@ -254,7 +254,7 @@ module _ (p : Program) (next : Next) where
   visit n (Applies l v args) env standing st = handle (next.use' (Apply v args env) (LoopMark n ∷ standing) st) (visit_after n l env standing)
   visit n (Compares l r v) env standing st = handle (next.use' (SendTo (sends_equal p) r (v ∷ []) env) (LoopMark n ∷ standing) st) (visit_after n l env standing)
   visit n (Finishes v) env standing st = Yields (Answer v) st
-  visit n (Lacks l) env standing st = handle (next.use' (fail NotFound env) (LoopMark n ∷ standing) st) (visit_after n l env standing)
+  visit n (Lacks l) env standing st = handle (next.use' (fail p NotFound env) (LoopMark n ∷ standing) st) (visit_after n l env standing)
   visit n (Charges cells s v) env standing st = charged (used p cells st) (stop CellLimit st) (λ st1. visit n v env standing (with_store st1 s))
 
   -- ---- what a message does at once
@@ -264,7 +264,7 @@ module _ (p : Program) (next : Next) where
   perform (Changes s v) env standing st = Yields (Answer v) (with_store st s)
   perform (Makes cells s v) env standing st = charged (used p cells st) (stop CellLimit st) (λ st1. Yields (Answer v) (with_store st1 s))
   perform (Writes text v) env standing st = Yields (Answer v) (record st { transcript = st.transcript ++ text })
-  perform (Fails trouble) env standing st = next.use' (fail trouble env) standing st
+  perform (Fails trouble) env standing st = next.use' (fail p trouble env) standing st
   perform (DividesByZero dividend) env standing st = next.use' (RaiseNew zero_divide_class (trouble_text p ZeroDivide ∷ dividend ∷ []) env) standing st
   perform PassesIntegers env standing st = Yields (Stop IntegerLimit) st
   perform (Begins v args) env standing st = next.use' (Apply v args env) standing st
@@ -299,7 +299,7 @@ module _ (p : Program) (next : Next) where
     leave InMethod b v st = Yields (Go (Home f.own) v) st
     leave InInitializer b v st = Yields (Go (Home f.own) v) st
     leave InBlock true v st = Yields (Go (Home f.home) v) st
-    leave InBlock false v st = handle (next.use' (fail HomeHasReturned env) standing st) (λ o st'. Yields (left_end f o) st')
+    leave InBlock false v st = handle (next.use' (fail p HomeHasReturned env) standing st) (λ o st'. Yields (left_end f o) st')
 
     -- arguments from the left, onto those that are there
     abbrev pub eval_args : Trees → List Value → (List Value → State → Result) → State → Result
@@ -333,7 +333,7 @@ module _ (p : Program) (next : Next) where
   -- ---- the rules
 
   abbrev pub rule : Use → List Mark → State → Result
-  rule (Apply v args env) standing st = next.use' (apply_by (closure_for p st.store v (length args)) v args env) standing st
+  rule (Apply v args env) standing st = next.use' (apply_by p (closure_for p st.store v (length args)) v args env) standing st
   rule (Activate c args env) standing st =
       charged (step_made p st) (stop StepLimit st) (λ st1. opened (block_opening c args env st1.next) standing st1)
   rule (Enter code r args env) standing st = opened (method_opening p code r args env st.next) standing st
