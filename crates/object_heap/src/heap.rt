@@ -148,6 +148,10 @@ pub trait Heap {
 }
 
 impl From<AllocError> for HeapStop {
+    ghost use Rattle.object_heap.specs.declared.heap.HeapStop.{HeapStop};
+
+    ghost from_gives = { λ _ e. e ≡ HeapStop.OutOfMemory };
+
     fn from(_: AllocError) -> Self {
         HeapStop::OutOfMemory
     }

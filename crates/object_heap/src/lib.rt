@@ -2,9 +2,15 @@
 #![tactic(auto)]
 
 mod heap;
+mod list_heap;
+mod list_object;
 mod trouble;
 mod value;
 
 pub use heap::{Heap, HeapStop};
+pub use list_heap::ListHeap;
 pub use trouble::Trouble;
 pub use value::{Closure, Value};
+
+#[cfg(test)]
+mod tests;

@@ -33,6 +33,34 @@ pub enum Trouble {
     ZeroDivide,
 }
 
+// The texts of the troubles, in their order.
+static TEXTS: [&[u8]; 24] = [
+    b"wrong number of arguments",
+    b"index out of range",
+    b"number expected",
+    b"string expected",
+    b"Boolean expected",
+    b"character expected",
+    b"byte expected",
+    b"collection expected",
+    b"symbol expected",
+    b"not indexed",
+    b"cannot be instantiated",
+    b"literal is read-only",
+    b"collection is empty",
+    b"not found",
+    b"step is zero",
+    b"bad radix",
+    b"exception selector expected",
+    b"exception expected",
+    b"exception is already signaled",
+    b"exception is not active",
+    b"exception is not resumable",
+    b"home method has returned",
+    b"subclass responsibility",
+    b"division by zero",
+];
+
 impl Trouble {
     /// How many there are.
     pub const COUNT: u32 = 24;
@@ -42,31 +70,13 @@ impl Trouble {
         ensures place { result ≡ place_of self }
         ensures within { result < Self.COUNT }
     {
-        match self {
-            Trouble::WrongNumberOfArguments => 0,
-            Trouble::IndexOutOfRange => 1,
-            Trouble::NumberExpected => 2,
-            Trouble::StringExpected => 3,
-            Trouble::BooleanExpected => 4,
-            Trouble::CharacterExpected => 5,
-            Trouble::ByteExpected => 6,
-            Trouble::CollectionExpected => 7,
-            Trouble::SymbolExpected => 8,
-            Trouble::NotIndexed => 9,
-            Trouble::CannotBeInstantiated => 10,
-            Trouble::LiteralIsReadOnly => 11,
-            Trouble::CollectionIsEmpty => 12,
-            Trouble::NotFound => 13,
-            Trouble::StepIsZero => 14,
-            Trouble::BadRadix => 15,
-            Trouble::ExceptionSelectorExpected => 16,
-            Trouble::ExceptionExpected => 17,
-            Trouble::AlreadySignaled => 18,
-            Trouble::NotActive => 19,
-            Trouble::NotResumable => 20,
-            Trouble::HomeHasReturned => 21,
-            Trouble::SubclassResponsibility => 22,
-            Trouble::ZeroDivide => 23,
-        }
+        self as u32
+    }
+
+    /// The message text of the Error that it signals.
+    pub fn text(self) -> &'static [u8]
+        ensures { result.now ≡ text_of self }
+    {
+        TEXTS[self as usize]
     }
 }

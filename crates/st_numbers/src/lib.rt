@@ -1,0 +1,7 @@
+// The messages of Integer and Fraction: sums, quotients, comparisons and bits over all the numbers that fit, and the integer limit exactly where a number that a rule names does not.
+#![tactic(auto)]
+
+mod divisor;
+mod message;
+
+pub use message::{Number, NumberAnswer, NumberArgument, NumberMessage};
