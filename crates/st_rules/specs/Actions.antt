@@ -6,7 +6,7 @@ use Rattle.object_heap.specs.declared.value.Closure.{Closure}
 use Rattle.object_heap.specs.declared.trouble.Trouble.{Trouble}
 use Rattle.object_heap.specs.Store.{Store, Object as HeapObject, object_added}
 use Rattle.object_heap.specs.Charges.{object_charge}
-use Rattle.st_rules.specs.Texts.{Text}
+use Rattle.st_code.specs.Texts.{Text}
 use Rattle.st_rules.specs.BuiltIns.{string_class}
 use Rattle.st_rules.specs.Messages.{Control, LoopMessage}
 

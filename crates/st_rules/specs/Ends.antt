@@ -6,7 +6,7 @@ use Rattle.object_heap.specs.declared.value.Closure.{Closure}
 use Rattle.object_heap.specs.declared.trouble.Trouble.{Trouble}
 use Rattle.object_heap.specs.Troubles.{place_of}
 use Rattle.object_heap.specs.Store.{Store, with_slot, block_added}
-use Rattle.st_rules.specs.Program.{Program, Place, Scoped, Slot, ClassSlot, Shared, Kind, InMethod, InBlock, InInitializer, Body, ClassRow, Initializer, body_at, class_at, number_of}
+use Rattle.st_code.specs.Program.{Program, Place, Scoped, Slot, ClassSlot, Shared, Kind, InMethod, InBlock, InInitializer, Body, ClassRow, Initializer, body_at, class_at, number_of}
 use Rattle.st_rules.specs.Events.{Event}
 use Rattle.st_rules.specs.State.{State, Entry, Env, Target, Home, Protected, Retry, RetryWith, Resume, Resignal, Terminate, Limit, Outcome, Answer, Go, Stop, Turn, Mark, Frame, with_store, told, scoped_variable, with_scoped_variable, first_variables, with_scope, is_at_signal}
 use Rattle.st_rules.specs.BuiltIns.{array_class, block_class, message_class}

@@ -5,7 +5,7 @@ use Rattle.object_heap.specs.declared.value.Value.TheVariants.{Nil, Integer, Cla
 use Rattle.object_heap.specs.declared.value.Closure.{Closure}
 use Rattle.object_heap.specs.declared.trouble.Trouble.TheVariants.{WrongNumberOfArguments, CollectionExpected, ExceptionSelectorExpected, ExceptionExpected}
 use Rattle.object_heap.specs.Store.{Store, object_at, closure_at, with_slot}
-use Rattle.st_rules.specs.Program.{Program, Body, ClassRow, body_at, class_at}
+use Rattle.st_code.specs.Program.{Program, Body, ClassRow, body_at, class_at}
 use Rattle.st_rules.specs.BuiltIns.{array_class, exception_set_class}
 use Rattle.st_rules.specs.Messages.{BlockMessage, Control, ExceptionMessage}
 use Rattle.st_rules.specs.Lookup.{is_plain, fits, is_exception}

@@ -4,8 +4,8 @@ use Rattle.std.specs.Fmt.{signed_decimal, digits}
 use Rattle.object_heap.specs.declared.value.Value.{Value}
 use Rattle.object_heap.specs.declared.value.Value.TheVariants.{Nil, True, False, Integer, Character, Symbol, Class, Meta, Transcript, Object}
 use Rattle.object_heap.specs.Store.{Store, object_at}
-use Rattle.st_rules.specs.Texts.{Text, quoted, symbol_text, with_article}
-use Rattle.st_rules.specs.Program.{Program, ClassRow, class_at, name_at, OfInstance}
+use Rattle.st_code.specs.Texts.{Text, quoted, symbol_text, with_article}
+use Rattle.st_code.specs.Program.{Program, ClassRow, class_at, name_at, OfInstance}
 use Rattle.st_rules.specs.BuiltIns.{string_class, symbol_class, fraction_class, array_class, byte_array_class, ordered_collection_class, set_class, dictionary_class, interval_class, message_not_understood_class, message_class}
 use Rattle.st_rules.specs.Lookup.{Level, level_of, class_of, class_text, inherits}
 

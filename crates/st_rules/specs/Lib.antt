@@ -1,5 +1,3 @@
-pub mod Texts
-pub mod Program
 pub mod Events
 pub mod State
 pub mod Messages
@@ -19,7 +17,6 @@ pub mod Ends
 pub mod Literals
 pub mod Rules
 pub mod Runs
-pub mod Code
 pub mod Machine
 pub mod Scoped
 pub mod Turns

@@ -4,8 +4,8 @@ use Rattle.std.specs.Option.{option_map}
 use Rattle.object_heap.specs.declared.value.Value.{Value}
 use Rattle.object_heap.specs.declared.value.Value.TheVariants.{Nil, True, False, Integer, Character, Symbol, Class, Meta, Transcript, Object}
 use Rattle.object_heap.specs.Store.{Store, object_at}
-use Rattle.st_rules.specs.Texts.{Text}
-use Rattle.st_rules.specs.Program.{Program, ClassRow, MethodRow, Side, OfInstance, OfClass, OfMeta, same_side, class_at, name_at, number_of}
+use Rattle.st_code.specs.Texts.{Text}
+use Rattle.st_code.specs.Program.{Program, ClassRow, MethodRow, Side, OfInstance, OfClass, OfMeta, same_side, class_at, name_at, number_of}
 use Rattle.st_rules.specs.Messages.{Row}
 use Rattle.st_rules.specs.BuiltIns.{row_at, object_class, undefined_object_class, true_class, false_class, integer_class, character_class, symbol_class, class_class, metaclass_class, transcript_writer_class, exception_class, exception_set_class}
 

@@ -5,7 +5,7 @@ use Rattle.object_heap.specs.declared.value.Value.TheVariants.{Nil, True, False,
 use Rattle.object_heap.specs.declared.trouble.Trouble.TheVariants.{NumberExpected, StepIsZero}
 use Rattle.object_heap.specs.Store.{Store, object_at, object_added, with_slot}
 use Rattle.object_heap.specs.Charges.{object_charge}
-use Rattle.st_rules.specs.Program.{Program}
+use Rattle.st_code.specs.Program.{Program}
 use Rattle.st_rules.specs.BuiltIns.{string_class, array_class, ordered_collection_class, set_class, dictionary_class}
 use Rattle.st_rules.specs.Messages.{LoopMessage}
 use Rattle.st_rules.specs.Actions.{Action, Fails, Iterates, LoopState, Visit, Applies, Compares, Finishes, Lacks, Charges, boolean, first, second, third, new_object, next_object, with_new}

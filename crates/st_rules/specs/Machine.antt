@@ -5,7 +5,7 @@ use Rattle.object_heap.specs.declared.value.Value.TheVariants.{Nil, True, False,
 use Rattle.object_heap.specs.declared.trouble.Trouble.{Trouble}
 use Rattle.object_heap.specs.declared.trouble.Trouble.TheVariants.{NotFound, ExceptionExpected, AlreadySignaled, NotActive, NotResumable, ZeroDivide}
 use Rattle.object_heap.specs.Store.{Store, object_at}
-use Rattle.st_rules.specs.Program.{Program, body_at}
+use Rattle.st_code.specs.Program.{Program, body_at}
 use Rattle.st_rules.specs.Events.{Event}
 use Rattle.st_rules.specs.State.{State, Entry, Env, Target, Protected, Retry, RetryWith, Resume, Resignal, Terminate, Limit, StepLimit, DepthLimit, CellLimit, IntegerLimit, Outcome, Answer, Go, Stop, Turn, Mark, BodyMark, ProtectMark, ActionMark, LoopMark, WaitMark, OuterMark, SignalMark, TurnMark, Frame, with_store, told, step_made, stood, used, scope_cells, is_live, FoundTurn, NoTurn, TurnAt, turn_of}
 use Rattle.st_rules.specs.BuiltIns.{zero_divide_class}

@@ -5,7 +5,7 @@ use Rattle.object_heap.specs.declared.value.Value.{Value}
 use Rattle.object_heap.specs.declared.value.Value.TheVariants.{Nil, Integer, Object}
 use Rattle.object_heap.specs.declared.trouble.Trouble.TheVariants.{NumberExpected, StepIsZero, BadRadix}
 use Rattle.object_heap.specs.Store.{Store, object_at}
-use Rattle.st_rules.specs.Program.{Program}
+use Rattle.st_code.specs.Program.{Program}
 use Rattle.st_rules.specs.BuiltIns.{fraction_class, interval_class}
 use Rattle.st_rules.specs.Messages.{NumberMessage}
 use Rattle.st_rules.specs.Actions.{Action, Gives, Fails, DividesByZero, PassesIntegers, boolean, first, second, makes_slots, makes_string}

@@ -5,8 +5,8 @@ use Rattle.object_heap.specs.declared.value.Value.TheVariants.{Nil, True, False,
 use Rattle.object_heap.specs.declared.trouble.Trouble.TheVariants.{WrongNumberOfArguments, IndexOutOfRange, NumberExpected, BooleanExpected, ByteExpected, CollectionExpected, SymbolExpected, NotIndexed, CannotBeInstantiated, SubclassResponsibility}
 use Rattle.object_heap.specs.Store.{Store, Object as HeapObject, object_at, object_set, object_added, with_slots, with_bytes, with_slot, with_byte}
 use Rattle.object_heap.specs.Charges.{object_charge}
-use Rattle.st_rules.specs.Texts.{arity}
-use Rattle.st_rules.specs.Program.{Program, ClassRow, Indexed, NoIndexes, ByObject, ByByte, Side, OfInstance, OfClass, OfMeta, same_side, class_at, name_at, number_of}
+use Rattle.st_code.specs.Texts.{arity}
+use Rattle.st_code.specs.Program.{Program, ClassRow, Indexed, NoIndexes, ByObject, ByByte, Side, OfInstance, OfClass, OfMeta, same_side, class_at, name_at, number_of}
 use Rattle.st_rules.specs.BuiltIns.{array_class, association_class, error_class, message_not_understood_class}
 use Rattle.st_rules.specs.Messages.{ObjectMessage, ClassMessage, BooleanMessage}
 use Rattle.st_rules.specs.Lookup.{Level, level_of, walk, lookup, class_of}

@@ -6,7 +6,7 @@ use Rattle.object_heap.specs.declared.value.Closure.{Closure}
 use Rattle.object_heap.specs.declared.trouble.Trouble.{Trouble}
 use Rattle.object_heap.specs.declared.trouble.Trouble.TheVariants.{NotFound, ExceptionExpected, AlreadySignaled, NotActive, NotResumable, HomeHasReturned, ZeroDivide}
 use Rattle.object_heap.specs.Store.{Store, object_at}
-use Rattle.st_rules.specs.Program.{Tree, Constant, Self, Variable, Assign, Block, Send, SuperSend, Cascade, SuperCascade, Trees, no_trees, more_trees, Messages, no_messages, more_messages, Statement, Plain, Return, Kind, InMethod, InBlock, InInitializer, Body, ClassRow, Program, body_at, class_at, number_of}
+use Rattle.st_code.specs.Program.{Tree, Constant, Self, Variable, Assign, Block, Send, SuperSend, Cascade, SuperCascade, Trees, no_trees, more_trees, Messages, no_messages, more_messages, Statement, Plain, Return, Kind, InMethod, InBlock, InInitializer, Body, ClassRow, Program, body_at, class_at, number_of}
 use Rattle.st_rules.specs.Events.{Event}
 use Rattle.st_rules.specs.State.{State, Entry, Env, Home, Protected, Retry, RetryWith, Resume, Resignal, Terminate, StepLimit, DepthLimit, CellLimit, IntegerLimit, Outcome, Answer, Go, Stop, Turn, Mark, BodyMark, ProtectMark, ActionMark, LoopMark, WaitMark, OuterMark, SignalMark, TurnMark, Frame, with_store, told, step_made, stood, used, scope_cells, stands, is_live, FoundTurn, NoTurn, TurnAt, turn_of}
 use Rattle.st_rules.specs.BuiltIns.{error_class, zero_divide_class}

@@ -2,7 +2,7 @@
 use Rattle.std.specs.Prelude.{◌≡◌, ℕ, List, [], ◌∷◌, length, replicate, Option, Some, None}
 use Rattle.object_heap.specs.declared.value.Value.{Value}
 use Rattle.object_heap.specs.declared.value.Value.TheVariants.{Nil}
-use Rattle.st_rules.specs.Program.{Program, Body, Initializer, body_at, Shared}
+use Rattle.st_code.specs.Program.{Program, Body, Initializer, body_at, Shared}
 use Rattle.st_rules.specs.State.{State, Target, Terminate, Limit, DepthLimit, CellLimit, Outcome, Answer, Go, Stop}
 use Rattle.st_rules.specs.Ends.{Result, Yields, charged, then_value, stop, initializer_opening}
 use Rattle.st_rules.specs.Rules.{Next, opened, at_index}

@@ -2,7 +2,7 @@
 use Rattle.std.specs.Prelude.{ℕ, List, [], ◌∷◌, Option, Some, None}
 use Rattle.object_heap.specs.declared.value.Value.{Value}
 use Rattle.object_heap.specs.Store.{Store}
-use Rattle.st_rules.specs.Program.{Program}
+use Rattle.st_code.specs.Program.{Program}
 use Rattle.st_rules.specs.Messages.{Row, Objects, Classes, Booleans, Numbers, Characters, Transcripts, Strings, Sequences, Collections, Blocks, Exceptions, Loops, Slots}
 use Rattle.st_rules.specs.Lookup.{Found, UserMethod, BuiltIn, level_of, lookup, super_lookup}
 use Rattle.st_rules.specs.Actions.{Action, Gives, Enters, Misses}

@@ -5,7 +5,7 @@ use Rattle.object_heap.specs.declared.value.Value.TheVariants.{Nil, Integer, Cha
 use Rattle.object_heap.specs.declared.trouble.Trouble.TheVariants.{IndexOutOfRange, NumberExpected, CharacterExpected, ByteExpected, CollectionExpected, LiteralIsReadOnly, CollectionIsEmpty}
 use Rattle.object_heap.specs.declared.trouble.Trouble.{Trouble}
 use Rattle.object_heap.specs.Store.{Store, Object as HeapObject, object_at, object_set, with_slot, with_byte}
-use Rattle.st_rules.specs.Program.{Program}
+use Rattle.st_code.specs.Program.{Program}
 use Rattle.st_rules.specs.BuiltIns.{string_class, byte_array_class, array_class, ordered_collection_class, dictionary_class, association_class}
 use Rattle.st_rules.specs.Messages.{SequenceMessage, CollectionMessage}
 use Rattle.st_rules.specs.Actions.{Action, Gives, Changes, Makes, Fails, boolean, first, second, next_object, makes_slots, makes_bytes}

@@ -3,8 +3,8 @@ use Rattle.std.specs.Prelude.{ℕ, zero, suc, ◌+◌, max, Bool, true, false, L
 use Rattle.object_heap.specs.declared.value.Value.{Value}
 use Rattle.object_heap.specs.declared.value.Value.TheVariants.{Nil}
 use Rattle.object_heap.specs.Store.{Store, scope_at, variable_at, with_variable, scope_added}
-use Rattle.st_rules.specs.Texts.{Text}
-use Rattle.st_rules.specs.Program.{Program, Body, Kind}
+use Rattle.st_code.specs.Texts.{Text}
+use Rattle.st_code.specs.Program.{Program, Body, Kind}
 use Rattle.st_rules.specs.Events.{Event}
 
 -- the objects, closures and scopes; the program's variables; the Transcript; the events; the steps made, the greatest depth, the cells used, and the next activation's number

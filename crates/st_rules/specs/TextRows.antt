@@ -4,8 +4,8 @@ use Rattle.object_heap.specs.declared.value.Value.{Value}
 use Rattle.object_heap.specs.declared.value.Value.TheVariants.{Nil, Integer, Character, Class}
 use Rattle.object_heap.specs.declared.trouble.Trouble.TheVariants.{IndexOutOfRange, NumberExpected, StringExpected, CharacterExpected, CannotBeInstantiated}
 use Rattle.object_heap.specs.Store.{Store}
-use Rattle.st_rules.specs.Texts.{Text, same_text, text_less, is_upper, is_lower, is_digit, is_letter, to_upper, to_lower}
-use Rattle.st_rules.specs.Program.{Program}
+use Rattle.st_code.specs.Texts.{Text, same_text, text_less, is_upper, is_lower, is_digit, is_letter, to_upper, to_lower}
+use Rattle.st_code.specs.Program.{Program}
 use Rattle.st_rules.specs.BuiltIns.{symbol_class}
 use Rattle.st_rules.specs.Messages.{CharacterMessage, TranscriptMessage, StringMessage}
 use Rattle.st_rules.specs.Actions.{Action, Gives, Makes, Writes, Fails, boolean, first, makes_string}

@@ -3,7 +3,7 @@ use Rattle.std.specs.Prelude.{ℕ, ◌+◌, Bool, true, false, List, [], ◌∷�
 use Rattle.object_heap.specs.declared.value.Value.{Value}
 use Rattle.object_heap.specs.declared.value.Value.TheVariants.{Nil}
 use Rattle.object_heap.specs.Store.{Object}
-use Rattle.st_rules.specs.Texts.{Text, same_text}
+use Rattle.st_code.specs.Texts.{Text, same_text}
 
 -- a variable: of the scope that is so many steps outwards, parameters first; a named slot of self; a class instance variable of self; or one of the program's
 pub data Place : Type 0 where

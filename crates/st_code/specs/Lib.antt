@@ -1,0 +1,4 @@
+pub mod Texts
+pub mod Program
+pub mod Code
+pub mod Compiled
