@@ -50,10 +50,10 @@ trouble_text p trouble = Object (p.trouble_place + place_of trouble)
 
 -- ---- variables
 
-abbrev shared : List Value → ℕ → Value
+abbrev pub shared : List Value → ℕ → Value
 shared variables i = get_or variables i Nil
 
-abbrev first_class_slot : Program → Value → ℕ
+abbrev pub first_class_slot : Program → Value → ℕ
 first_class_slot p (Class class) = (class_at p class).class_slots
 first_class_slot p v = 0
 
@@ -63,7 +63,7 @@ read_place p f st (Slot index) = slot_of st.store f.self index
 read_place p f st (ClassSlot index) = shared st.variables (first_class_slot p f.self + index)
 read_place p f st (Shared index) = shared st.variables index
 
-abbrev with_self_slot : Value → ℕ → Value → Store → Store
+abbrev pub with_self_slot : Value → ℕ → Value → Store → Store
 with_self_slot (Object number) index v s = with_slot number index v s
 with_self_slot self index v s = s
 

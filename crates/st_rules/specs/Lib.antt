@@ -20,3 +20,4 @@ pub mod Runs
 pub mod Machine
 pub mod Scoped
 pub mod Turns
+pub mod Flat
