@@ -17,6 +17,7 @@ pub mod Ends
 pub mod Literals
 pub mod Rules
 pub mod Runs
+pub mod OneRun
 pub mod Machine
 pub mod Scoped
 pub mod Turns

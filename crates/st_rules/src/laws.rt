@@ -1,3 +1,0 @@
-// Functions without a body whose contracts are laws of the rules.
-
-pub fn nothing() {}
