@@ -1,8 +1,8 @@
 -- The code of bodies: what the instruction machine runs for each expression and statement.
-use Rattle.std.specs.Prelude.{ℕ, suc, Bool, true, false, List, [], ◌∷◌}
+use Rattle.std.specs.Prelude.{ℕ, suc, List, [], ◌∷◌}
 use Rattle.object_heap.specs.declared.value.Value.{Value}
 use Rattle.object_heap.specs.declared.value.Value.TheVariants.{Nil}
-use Rattle.st_code.specs.Program.{Place, Tree, Constant, Self, Variable, Assign, Block, Send, SuperSend, Cascade, SuperCascade, Trees, no_trees, more_trees, Messages, no_messages, more_messages, Statement, Plain, Return, Kind, InMethod, InBlock, InInitializer, Body}
+use Rattle.st_code.specs.Program.{Place, Tree, Constant, Self, Variable, Assign, Block, Send, SuperSend, Cascade, SuperCascade, Trees, no_trees, more_trees, Messages, no_messages, more_messages, Statement, Plain, Return, Kind, InMethod, InBlock, InInitializer}
 
 -- a Push of a constant, self or a variable; a Store, which keeps the value; messages with their count of arguments; a block of this code; the ends of methods and blocks
 pub data Instr : Type 0 where

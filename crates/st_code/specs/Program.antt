@@ -1,5 +1,5 @@
 -- A program as the rules read it: names, classes, methods and bodies, in which each variable is the place that its name stands for.
-use Rattle.std.specs.Prelude.{ℕ, ◌+◌, Bool, true, false, List, [], ◌∷◌, Option, Some, None, length, get_or, nat_eq, if◌then◌else◌}
+use Rattle.std.specs.Prelude.{ℕ, ◌+◌, Bool, true, false, List, [], ◌∷◌, Option, None, get_or}
 use Rattle.object_heap.specs.declared.value.Value.{Value}
 use Rattle.object_heap.specs.declared.value.Value.TheVariants.{Nil}
 use Rattle.object_heap.specs.Store.{Object}

@@ -1,5 +1,5 @@
 -- Texts as lists of bytes: equality, ASCII letters, the forms of selectors, and how values are written.
-use Rattle.std.specs.Prelude.{ℕ, zero, suc, ◌+◌, ◌-◌, Bool, true, false, not, ◌&&◌, ◌||◌, List, [], ◌∷◌, ◌++◌, nat_eq, nat_le, if◌then◌else◌, codes}
+use Rattle.std.specs.Prelude.{ℕ, suc, ◌+◌, ◌-◌, Bool, true, false, not, ◌&&◌, ◌||◌, List, [], ◌∷◌, ◌++◌, nat_eq, nat_le, if◌then◌else◌, codes}
 
 abbrev pub Text : Type 0
 Text = List ℕ

@@ -1,18 +1,17 @@
 -- What a run is seen as, by the rules, the scoped machine and the flat one, and all that a run computes with.
 use Rattle.std.proofs.Common.{◌≡◌, ℕ, List, [], ◌∷◌}
-use Rattle.object_heap.specs.declared.value.Value.{Value}
 use Rattle.object_heap.specs.declared.value.Value.TheVariants.{Object}
 use Rattle.object_heap.specs.Store.{object_at}
 use Rattle.st_code.specs.Texts.{Text}
-use Rattle.st_code.specs.Program.{Program, ClassRow}
+use Rattle.st_code.specs.Program.{Program}
 use Rattle.st_rules.specs.Events.{Event}
 use Rattle.st_rules.specs.State.{State, Limit}
 use Rattle.st_rules.specs.Ends.{Result, Yields, NoIndex}
 use Rattle.st_rules.specs.Runs.{Ending, Done, Unhandled, AtLimit, Stuck, run_from, end_of}
 use Rattle.st_rules.specs.Machine.{Bodies}
-use Rattle.st_rules.specs.Scoped.{ScopedBody, scoped}
+use Rattle.st_rules.specs.Scoped.{scoped}
 use Rattle.st_rules.specs.Turns.{Top, On, Ended, opened_run, top_iter, instructions}
-use Rattle.st_rules.specs.Flat.{FlatBody, flat, greatest_width}
+use Rattle.st_rules.specs.Flat.{flat, greatest_width}
 use Rattle.st_code.specs.Compiled.{variable_at, compiled_body, compile_of}
 use Rattle.st_code.specs.Program.{body_at, class_at, name_at, number_of}
 use Rattle.st_code.specs.Texts.{same_text, text_less, is_upper, is_lower, is_digit, is_letter, to_upper, to_lower, all_bytes, is_identifier, are_keywords, is_keywords, holds_byte, is_operators, count_byte, arity, quotes_doubled, quoted, symbol_text, with_article}

@@ -1,12 +1,12 @@
 -- Runs with handlers, resumption, retry, pass, outer and resignal. Each is computed by the rules and by both machines.
-use Rattle.std.proofs.Common.{◌≡◌, ℕ, List, [], ◌∷◌, ◌++◌, refl, true, false, Some, None, pos, negsuc}
+use Rattle.std.proofs.Common.{[], ◌∷◌, ◌++◌, refl, true, false, Some, None, pos}
 use Rattle.std.specs.Prelude.{codes}
-use Rattle.object_heap.specs.declared.value.Value.TheVariants.{Nil, True, False, Integer, Character, Symbol, Class, Meta, Transcript, Object}
-use Rattle.st_code.specs.Program.{Program, Scoped, Slot, ClassSlot, Shared, Tree, Constant, Self, Variable, Assign, Block, Send, SuperSend, Cascade, SuperCascade, Trees, no_trees, more_trees, Messages, no_messages, more_messages, Plain, Return, InMethod, InBlock, InInitializer, OfInstance, OfClass, NoIndexes, ByObject, ByByte}
+use Rattle.object_heap.specs.declared.value.Value.TheVariants.{Nil, Integer, Class, Transcript, Object}
+use Rattle.st_code.specs.Program.{Program, Scoped, Constant, Variable, Assign, Block, Send, no_trees, more_trees, Plain, Return, InMethod, InBlock, InInitializer, OfInstance, NoIndexes}
 use Rattle.st_rules.specs.Events.{Event}
-use Rattle.st_rules.specs.State.{StepLimit, DepthLimit, CellLimit, IntegerLimit}
+use Rattle.st_rules.specs.State.{StepLimit, DepthLimit, CellLimit}
 use Rattle.st_rules.specs.BuiltIns.{built_in_class_rows}
-use Rattle.st_rules.specs.Literals.{literal_string, literal_array, trouble_literals}
+use Rattle.st_rules.specs.Literals.{literal_string, trouble_literals}
 use Rattle.st_rules.proofs.Computing.{Reports, computing, WasDone, WasUnhandled, WasAtLimit}
 
 -- Global initializer!Transcript show: ([Error signal. 1] on: Error do: [:e | 7]) printString!
@@ -16,10 +16,10 @@ handled =
       names = (codes "value") ∷ (codes "value:") ∷ (codes "value:value:") ∷ (61 ∷ []) ∷ (codes "defaultAction") ∷ (codes "isResumable") ∷ (codes "handles:") ∷ (codes "doesNotUnderstand:") ∷ (codes "printString") ∷ (codes "signal") ∷ (codes "on:do:") ∷ (codes "show:") ∷ [];
       classes = built_in_class_rows;
       methods = [];
-      bodies = 
-        record { kind = InInitializer; class = Class 1; parameters = 0; captured = []; outer = None; statements = Plain (Send 11 (Constant Transcript) (more_trees (Send 8 (Send 10 (Block 1) (more_trees (Constant (Class 24)) (more_trees (Block 2) no_trees))) no_trees) no_trees)) ∷ [] } ∷
-        record { kind = InBlock; class = Class 1; parameters = 0; captured = []; outer = (Some 0); statements = Plain (Send 9 (Constant (Class 24)) no_trees) ∷ Plain (Constant (Integer (pos 1))) ∷ [] } ∷
-        record { kind = InBlock; class = Class 1; parameters = 1; captured = false ∷ []; outer = (Some 0); statements = Plain (Constant (Integer (pos 7))) ∷ [] } ∷ [];
+      bodies =
+          record { kind = InInitializer; class = Class 1; parameters = 0; captured = []; outer = None; statements = Plain (Send 11 (Constant Transcript) (more_trees (Send 8 (Send 10 (Block 1) (more_trees (Constant (Class 24)) (more_trees (Block 2) no_trees))) no_trees) no_trees)) ∷ [] } ∷
+          record { kind = InBlock; class = Class 1; parameters = 0; captured = []; outer = (Some 0); statements = Plain (Send 9 (Constant (Class 24)) no_trees) ∷ Plain (Constant (Integer (pos 1))) ∷ [] } ∷
+          record { kind = InBlock; class = Class 1; parameters = 1; captured = false ∷ []; outer = (Some 0); statements = Plain (Constant (Integer (pos 7))) ∷ [] } ∷ [];
       initializers = record { code = 0; self = Nil; target = None } ∷ [];
       literals = trouble_literals;
       trouble_place = 0;
@@ -40,10 +40,10 @@ resumed =
       names = (codes "value") ∷ (codes "value:") ∷ (codes "value:value:") ∷ (61 ∷ []) ∷ (codes "defaultAction") ∷ (codes "isResumable") ∷ (codes "handles:") ∷ (codes "doesNotUnderstand:") ∷ (codes "printString") ∷ (codes "signal:") ∷ (43 ∷ []) ∷ (codes "resume:") ∷ (codes "on:do:") ∷ (codes "show:") ∷ [];
       classes = built_in_class_rows;
       methods = [];
-      bodies = 
-        record { kind = InInitializer; class = Class 1; parameters = 0; captured = []; outer = None; statements = Plain (Send 13 (Constant Transcript) (more_trees (Send 8 (Send 12 (Block 1) (more_trees (Constant (Class 28)) (more_trees (Block 2) no_trees))) no_trees) no_trees)) ∷ [] } ∷
-        record { kind = InBlock; class = Class 1; parameters = 0; captured = []; outer = (Some 0); statements = Plain (Send 10 (Send 9 (Constant (Class 28)) (more_trees (Constant (Object 0)) no_trees)) (more_trees (Constant (Integer (pos 1))) no_trees)) ∷ [] } ∷
-        record { kind = InBlock; class = Class 1; parameters = 1; captured = false ∷ []; outer = (Some 0); statements = Plain (Send 11 (Variable (Scoped 0 0)) (more_trees (Constant (Integer (pos 5))) no_trees)) ∷ [] } ∷ [];
+      bodies =
+          record { kind = InInitializer; class = Class 1; parameters = 0; captured = []; outer = None; statements = Plain (Send 13 (Constant Transcript) (more_trees (Send 8 (Send 12 (Block 1) (more_trees (Constant (Class 28)) (more_trees (Block 2) no_trees))) no_trees) no_trees)) ∷ [] } ∷
+          record { kind = InBlock; class = Class 1; parameters = 0; captured = []; outer = (Some 0); statements = Plain (Send 10 (Send 9 (Constant (Class 28)) (more_trees (Constant (Object 0)) no_trees)) (more_trees (Constant (Integer (pos 1))) no_trees)) ∷ [] } ∷
+          record { kind = InBlock; class = Class 1; parameters = 1; captured = false ∷ []; outer = (Some 0); statements = Plain (Send 11 (Variable (Scoped 0 0)) (more_trees (Constant (Integer (pos 5))) no_trees)) ∷ [] } ∷ [];
       initializers = record { code = 0; self = Nil; target = None } ∷ [];
       literals = (literal_string (119 ∷ []) ∷ []) ++ trouble_literals;
       trouble_place = 1;
@@ -64,12 +64,12 @@ unwound =
       names = (codes "value") ∷ (codes "value:") ∷ (codes "value:value:") ∷ (61 ∷ []) ∷ (codes "defaultAction") ∷ (codes "isResumable") ∷ (codes "handles:") ∷ (codes "doesNotUnderstand:") ∷ (codes "printString") ∷ (codes "signal") ∷ (codes "show:") ∷ (codes "ensure:") ∷ (codes "on:do:") ∷ [];
       classes = built_in_class_rows;
       methods = [];
-      bodies = 
-        record { kind = InInitializer; class = Class 1; parameters = 0; captured = []; outer = None; statements = Plain (Send 12 (Block 1) (more_trees (Constant (Class 24)) (more_trees (Block 4) no_trees))) ∷ [] } ∷
-        record { kind = InBlock; class = Class 1; parameters = 0; captured = []; outer = (Some 0); statements = Plain (Send 11 (Block 2) (more_trees (Block 3) no_trees)) ∷ [] } ∷
-        record { kind = InBlock; class = Class 1; parameters = 0; captured = []; outer = (Some 1); statements = Plain (Send 9 (Constant (Class 24)) no_trees) ∷ [] } ∷
-        record { kind = InBlock; class = Class 1; parameters = 0; captured = []; outer = (Some 1); statements = Plain (Send 10 (Constant Transcript) (more_trees (Constant (Object 0)) no_trees)) ∷ [] } ∷
-        record { kind = InBlock; class = Class 1; parameters = 1; captured = false ∷ []; outer = (Some 0); statements = Plain (Send 10 (Constant Transcript) (more_trees (Constant (Object 1)) no_trees)) ∷ [] } ∷ [];
+      bodies =
+          record { kind = InInitializer; class = Class 1; parameters = 0; captured = []; outer = None; statements = Plain (Send 12 (Block 1) (more_trees (Constant (Class 24)) (more_trees (Block 4) no_trees))) ∷ [] } ∷
+          record { kind = InBlock; class = Class 1; parameters = 0; captured = []; outer = (Some 0); statements = Plain (Send 11 (Block 2) (more_trees (Block 3) no_trees)) ∷ [] } ∷
+          record { kind = InBlock; class = Class 1; parameters = 0; captured = []; outer = (Some 1); statements = Plain (Send 9 (Constant (Class 24)) no_trees) ∷ [] } ∷
+          record { kind = InBlock; class = Class 1; parameters = 0; captured = []; outer = (Some 1); statements = Plain (Send 10 (Constant Transcript) (more_trees (Constant (Object 0)) no_trees)) ∷ [] } ∷
+          record { kind = InBlock; class = Class 1; parameters = 1; captured = false ∷ []; outer = (Some 0); statements = Plain (Send 10 (Constant Transcript) (more_trees (Constant (Object 1)) no_trees)) ∷ [] } ∷ [];
       initializers = record { code = 0; self = Nil; target = None } ∷ [];
       literals = (literal_string (117 ∷ []) ∷ literal_string (104 ∷ []) ∷ []) ++ trouble_literals;
       trouble_place = 2;
@@ -90,12 +90,12 @@ unhandled =
       names = (codes "value") ∷ (codes "value:") ∷ (codes "value:value:") ∷ (61 ∷ []) ∷ (codes "defaultAction") ∷ (codes "isResumable") ∷ (codes "handles:") ∷ (codes "doesNotUnderstand:") ∷ (codes "printString") ∷ (codes "signal") ∷ (codes "show:") ∷ (codes "ensure:") ∷ [];
       classes = built_in_class_rows;
       methods = [];
-      bodies = 
-        record { kind = InInitializer; class = Class 1; parameters = 0; captured = []; outer = None; statements = Plain (Send 11 (Block 1) (more_trees (Block 4) no_trees)) ∷ [] } ∷
-        record { kind = InBlock; class = Class 1; parameters = 0; captured = []; outer = (Some 0); statements = Plain (Send 11 (Block 2) (more_trees (Block 3) no_trees)) ∷ [] } ∷
-        record { kind = InBlock; class = Class 1; parameters = 0; captured = []; outer = (Some 1); statements = Plain (Send 9 (Constant (Class 24)) no_trees) ∷ [] } ∷
-        record { kind = InBlock; class = Class 1; parameters = 0; captured = []; outer = (Some 1); statements = Plain (Send 10 (Constant Transcript) (more_trees (Constant (Object 0)) no_trees)) ∷ [] } ∷
-        record { kind = InBlock; class = Class 1; parameters = 0; captured = []; outer = (Some 0); statements = Plain (Send 10 (Constant Transcript) (more_trees (Constant (Object 1)) no_trees)) ∷ [] } ∷ [];
+      bodies =
+          record { kind = InInitializer; class = Class 1; parameters = 0; captured = []; outer = None; statements = Plain (Send 11 (Block 1) (more_trees (Block 4) no_trees)) ∷ [] } ∷
+          record { kind = InBlock; class = Class 1; parameters = 0; captured = []; outer = (Some 0); statements = Plain (Send 11 (Block 2) (more_trees (Block 3) no_trees)) ∷ [] } ∷
+          record { kind = InBlock; class = Class 1; parameters = 0; captured = []; outer = (Some 1); statements = Plain (Send 9 (Constant (Class 24)) no_trees) ∷ [] } ∷
+          record { kind = InBlock; class = Class 1; parameters = 0; captured = []; outer = (Some 1); statements = Plain (Send 10 (Constant Transcript) (more_trees (Constant (Object 0)) no_trees)) ∷ [] } ∷
+          record { kind = InBlock; class = Class 1; parameters = 0; captured = []; outer = (Some 0); statements = Plain (Send 10 (Constant Transcript) (more_trees (Constant (Object 1)) no_trees)) ∷ [] } ∷ [];
       initializers = record { code = 0; self = Nil; target = None } ∷ [];
       literals = (literal_string (97 ∷ []) ∷ literal_string (98 ∷ []) ∷ []) ++ trouble_literals;
       trouble_place = 2;
@@ -116,12 +116,12 @@ outer_returned =
       names = (codes "value") ∷ (codes "value:") ∷ (codes "value:value:") ∷ (61 ∷ []) ∷ (codes "defaultAction") ∷ (codes "isResumable") ∷ (codes "handles:") ∷ (codes "doesNotUnderstand:") ∷ (codes "printString") ∷ (codes "signal") ∷ (codes "outer") ∷ (43 ∷ []) ∷ (codes "return:") ∷ (codes "on:do:") ∷ (codes "resume:") ∷ (codes "show:") ∷ [];
       classes = built_in_class_rows;
       methods = [];
-      bodies = 
-        record { kind = InInitializer; class = Class 1; parameters = 0; captured = []; outer = None; statements = Plain (Send 15 (Constant Transcript) (more_trees (Send 8 (Send 13 (Block 1) (more_trees (Constant (Class 28)) (more_trees (Block 4) no_trees))) no_trees) no_trees)) ∷ [] } ∷
-        record { kind = InBlock; class = Class 1; parameters = 0; captured = []; outer = (Some 0); statements = Plain (Send 13 (Block 2) (more_trees (Constant (Class 28)) (more_trees (Block 3) no_trees))) ∷ [] } ∷
-        record { kind = InBlock; class = Class 1; parameters = 0; captured = []; outer = (Some 1); statements = Plain (Send 9 (Constant (Class 28)) no_trees) ∷ [] } ∷
-        record { kind = InBlock; class = Class 1; parameters = 1; captured = false ∷ []; outer = (Some 1); statements = Plain (Send 12 (Variable (Scoped 0 0)) (more_trees (Send 11 (Send 10 (Variable (Scoped 0 0)) no_trees) (more_trees (Constant (Integer (pos 1))) no_trees)) no_trees)) ∷ [] } ∷
-        record { kind = InBlock; class = Class 1; parameters = 1; captured = false ∷ []; outer = (Some 0); statements = Plain (Send 14 (Variable (Scoped 0 0)) (more_trees (Constant (Integer (pos 4))) no_trees)) ∷ [] } ∷ [];
+      bodies =
+          record { kind = InInitializer; class = Class 1; parameters = 0; captured = []; outer = None; statements = Plain (Send 15 (Constant Transcript) (more_trees (Send 8 (Send 13 (Block 1) (more_trees (Constant (Class 28)) (more_trees (Block 4) no_trees))) no_trees) no_trees)) ∷ [] } ∷
+          record { kind = InBlock; class = Class 1; parameters = 0; captured = []; outer = (Some 0); statements = Plain (Send 13 (Block 2) (more_trees (Constant (Class 28)) (more_trees (Block 3) no_trees))) ∷ [] } ∷
+          record { kind = InBlock; class = Class 1; parameters = 0; captured = []; outer = (Some 1); statements = Plain (Send 9 (Constant (Class 28)) no_trees) ∷ [] } ∷
+          record { kind = InBlock; class = Class 1; parameters = 1; captured = false ∷ []; outer = (Some 1); statements = Plain (Send 12 (Variable (Scoped 0 0)) (more_trees (Send 11 (Send 10 (Variable (Scoped 0 0)) no_trees) (more_trees (Constant (Integer (pos 1))) no_trees)) no_trees)) ∷ [] } ∷
+          record { kind = InBlock; class = Class 1; parameters = 1; captured = false ∷ []; outer = (Some 0); statements = Plain (Send 14 (Variable (Scoped 0 0)) (more_trees (Constant (Integer (pos 4))) no_trees)) ∷ [] } ∷ [];
       initializers = record { code = 0; self = Nil; target = None } ∷ [];
       literals = trouble_literals;
       trouble_place = 0;
@@ -142,12 +142,12 @@ passed =
       names = (codes "value") ∷ (codes "value:") ∷ (codes "value:value:") ∷ (61 ∷ []) ∷ (codes "defaultAction") ∷ (codes "isResumable") ∷ (codes "handles:") ∷ (codes "doesNotUnderstand:") ∷ (codes "printString") ∷ (codes "signal") ∷ (43 ∷ []) ∷ (codes "pass") ∷ (codes "on:do:") ∷ (codes "resume:") ∷ (codes "show:") ∷ [];
       classes = built_in_class_rows;
       methods = [];
-      bodies = 
-        record { kind = InInitializer; class = Class 1; parameters = 0; captured = []; outer = None; statements = Plain (Send 14 (Constant Transcript) (more_trees (Send 8 (Send 12 (Block 1) (more_trees (Constant (Class 28)) (more_trees (Block 4) no_trees))) no_trees) no_trees)) ∷ [] } ∷
-        record { kind = InBlock; class = Class 1; parameters = 0; captured = []; outer = (Some 0); statements = Plain (Send 12 (Block 2) (more_trees (Constant (Class 28)) (more_trees (Block 3) no_trees))) ∷ [] } ∷
-        record { kind = InBlock; class = Class 1; parameters = 0; captured = []; outer = (Some 1); statements = Plain (Send 10 (Send 9 (Constant (Class 28)) no_trees) (more_trees (Constant (Integer (pos 10))) no_trees)) ∷ [] } ∷
-        record { kind = InBlock; class = Class 1; parameters = 1; captured = false ∷ []; outer = (Some 1); statements = Plain (Send 11 (Variable (Scoped 0 0)) no_trees) ∷ Plain (Constant (Integer (pos 0))) ∷ [] } ∷
-        record { kind = InBlock; class = Class 1; parameters = 1; captured = false ∷ []; outer = (Some 0); statements = Plain (Send 13 (Variable (Scoped 0 0)) (more_trees (Constant (Integer (pos 4))) no_trees)) ∷ [] } ∷ [];
+      bodies =
+          record { kind = InInitializer; class = Class 1; parameters = 0; captured = []; outer = None; statements = Plain (Send 14 (Constant Transcript) (more_trees (Send 8 (Send 12 (Block 1) (more_trees (Constant (Class 28)) (more_trees (Block 4) no_trees))) no_trees) no_trees)) ∷ [] } ∷
+          record { kind = InBlock; class = Class 1; parameters = 0; captured = []; outer = (Some 0); statements = Plain (Send 12 (Block 2) (more_trees (Constant (Class 28)) (more_trees (Block 3) no_trees))) ∷ [] } ∷
+          record { kind = InBlock; class = Class 1; parameters = 0; captured = []; outer = (Some 1); statements = Plain (Send 10 (Send 9 (Constant (Class 28)) no_trees) (more_trees (Constant (Integer (pos 10))) no_trees)) ∷ [] } ∷
+          record { kind = InBlock; class = Class 1; parameters = 1; captured = false ∷ []; outer = (Some 1); statements = Plain (Send 11 (Variable (Scoped 0 0)) no_trees) ∷ Plain (Constant (Integer (pos 0))) ∷ [] } ∷
+          record { kind = InBlock; class = Class 1; parameters = 1; captured = false ∷ []; outer = (Some 0); statements = Plain (Send 13 (Variable (Scoped 0 0)) (more_trees (Constant (Integer (pos 4))) no_trees)) ∷ [] } ∷ [];
       initializers = record { code = 0; self = Nil; target = None } ∷ [];
       literals = trouble_literals;
       trouble_place = 0;
@@ -168,12 +168,12 @@ resignaled =
       names = (codes "value") ∷ (codes "value:") ∷ (codes "value:value:") ∷ (61 ∷ []) ∷ (codes "defaultAction") ∷ (codes "isResumable") ∷ (codes "handles:") ∷ (codes "doesNotUnderstand:") ∷ (codes "printString") ∷ (codes "signal") ∷ (43 ∷ []) ∷ (codes "new") ∷ (codes "resignalAs:") ∷ (codes "on:do:") ∷ (codes "resume:") ∷ (codes "show:") ∷ [];
       classes = built_in_class_rows;
       methods = [];
-      bodies = 
-        record { kind = InInitializer; class = Class 1; parameters = 0; captured = []; outer = None; statements = Plain (Send 15 (Constant Transcript) (more_trees (Send 8 (Send 13 (Block 1) (more_trees (Constant (Class 28)) (more_trees (Block 4) no_trees))) no_trees) no_trees)) ∷ [] } ∷
-        record { kind = InBlock; class = Class 1; parameters = 0; captured = []; outer = (Some 0); statements = Plain (Send 13 (Block 2) (more_trees (Constant (Class 24)) (more_trees (Block 3) no_trees))) ∷ [] } ∷
-        record { kind = InBlock; class = Class 1; parameters = 0; captured = []; outer = (Some 1); statements = Plain (Send 10 (Send 9 (Constant (Class 24)) no_trees) (more_trees (Constant (Integer (pos 1))) no_trees)) ∷ [] } ∷
-        record { kind = InBlock; class = Class 1; parameters = 1; captured = false ∷ []; outer = (Some 1); statements = Plain (Send 12 (Variable (Scoped 0 0)) (more_trees (Send 11 (Constant (Class 28)) no_trees) no_trees)) ∷ [] } ∷
-        record { kind = InBlock; class = Class 1; parameters = 1; captured = false ∷ []; outer = (Some 0); statements = Plain (Send 14 (Variable (Scoped 0 0)) (more_trees (Constant (Integer (pos 3))) no_trees)) ∷ [] } ∷ [];
+      bodies =
+          record { kind = InInitializer; class = Class 1; parameters = 0; captured = []; outer = None; statements = Plain (Send 15 (Constant Transcript) (more_trees (Send 8 (Send 13 (Block 1) (more_trees (Constant (Class 28)) (more_trees (Block 4) no_trees))) no_trees) no_trees)) ∷ [] } ∷
+          record { kind = InBlock; class = Class 1; parameters = 0; captured = []; outer = (Some 0); statements = Plain (Send 13 (Block 2) (more_trees (Constant (Class 24)) (more_trees (Block 3) no_trees))) ∷ [] } ∷
+          record { kind = InBlock; class = Class 1; parameters = 0; captured = []; outer = (Some 1); statements = Plain (Send 10 (Send 9 (Constant (Class 24)) no_trees) (more_trees (Constant (Integer (pos 1))) no_trees)) ∷ [] } ∷
+          record { kind = InBlock; class = Class 1; parameters = 1; captured = false ∷ []; outer = (Some 1); statements = Plain (Send 12 (Variable (Scoped 0 0)) (more_trees (Send 11 (Constant (Class 28)) no_trees) no_trees)) ∷ [] } ∷
+          record { kind = InBlock; class = Class 1; parameters = 1; captured = false ∷ []; outer = (Some 0); statements = Plain (Send 14 (Variable (Scoped 0 0)) (more_trees (Constant (Integer (pos 3))) no_trees)) ∷ [] } ∷ [];
       initializers = record { code = 0; self = Nil; target = None } ∷ [];
       literals = trouble_literals;
       trouble_place = 0;
@@ -194,13 +194,13 @@ retried =
       names = (codes "value") ∷ (codes "value:") ∷ (codes "value:value:") ∷ (61 ∷ []) ∷ (codes "defaultAction") ∷ (codes "isResumable") ∷ (codes "handles:") ∷ (codes "doesNotUnderstand:") ∷ (codes "printString") ∷ (43 ∷ []) ∷ (60 ∷ []) ∷ (codes "signal") ∷ (codes "ifTrue:") ∷ (codes "show:") ∷ (codes "ensure:") ∷ (codes "retry") ∷ (codes "on:do:") ∷ [];
       classes = built_in_class_rows;
       methods = [];
-      bodies = 
-        record { kind = InInitializer; class = Class 1; parameters = 0; captured = true ∷ []; outer = None; statements = Plain (Assign (Scoped 0 0) (Constant (Integer (pos 0)))) ∷ Plain (Send 16 (Block 1) (more_trees (Constant (Class 24)) (more_trees (Block 5) no_trees))) ∷ Plain (Send 13 (Constant Transcript) (more_trees (Send 8 (Variable (Scoped 0 0)) no_trees) no_trees)) ∷ [] } ∷
-        record { kind = InBlock; class = Class 1; parameters = 0; captured = []; outer = (Some 0); statements = Plain (Send 14 (Block 2) (more_trees (Block 4) no_trees)) ∷ [] } ∷
-        record { kind = InBlock; class = Class 1; parameters = 0; captured = []; outer = (Some 1); statements = Plain (Assign (Scoped 2 0) (Send 9 (Variable (Scoped 2 0)) (more_trees (Constant (Integer (pos 1))) no_trees))) ∷ Plain (Send 12 (Send 10 (Variable (Scoped 2 0)) (more_trees (Constant (Integer (pos 3))) no_trees)) (more_trees (Block 3) no_trees)) ∷ Plain (Variable (Scoped 2 0)) ∷ [] } ∷
-        record { kind = InBlock; class = Class 1; parameters = 0; captured = []; outer = (Some 2); statements = Plain (Send 11 (Constant (Class 24)) no_trees) ∷ [] } ∷
-        record { kind = InBlock; class = Class 1; parameters = 0; captured = []; outer = (Some 1); statements = Plain (Send 13 (Constant Transcript) (more_trees (Constant (Object 0)) no_trees)) ∷ [] } ∷
-        record { kind = InBlock; class = Class 1; parameters = 1; captured = false ∷ []; outer = (Some 0); statements = Plain (Send 15 (Variable (Scoped 0 0)) no_trees) ∷ [] } ∷ [];
+      bodies =
+          record { kind = InInitializer; class = Class 1; parameters = 0; captured = true ∷ []; outer = None; statements = Plain (Assign (Scoped 0 0) (Constant (Integer (pos 0)))) ∷ Plain (Send 16 (Block 1) (more_trees (Constant (Class 24)) (more_trees (Block 5) no_trees))) ∷ Plain (Send 13 (Constant Transcript) (more_trees (Send 8 (Variable (Scoped 0 0)) no_trees) no_trees)) ∷ [] } ∷
+          record { kind = InBlock; class = Class 1; parameters = 0; captured = []; outer = (Some 0); statements = Plain (Send 14 (Block 2) (more_trees (Block 4) no_trees)) ∷ [] } ∷
+          record { kind = InBlock; class = Class 1; parameters = 0; captured = []; outer = (Some 1); statements = Plain (Assign (Scoped 2 0) (Send 9 (Variable (Scoped 2 0)) (more_trees (Constant (Integer (pos 1))) no_trees))) ∷ Plain (Send 12 (Send 10 (Variable (Scoped 2 0)) (more_trees (Constant (Integer (pos 3))) no_trees)) (more_trees (Block 3) no_trees)) ∷ Plain (Variable (Scoped 2 0)) ∷ [] } ∷
+          record { kind = InBlock; class = Class 1; parameters = 0; captured = []; outer = (Some 2); statements = Plain (Send 11 (Constant (Class 24)) no_trees) ∷ [] } ∷
+          record { kind = InBlock; class = Class 1; parameters = 0; captured = []; outer = (Some 1); statements = Plain (Send 13 (Constant Transcript) (more_trees (Constant (Object 0)) no_trees)) ∷ [] } ∷
+          record { kind = InBlock; class = Class 1; parameters = 1; captured = false ∷ []; outer = (Some 0); statements = Plain (Send 15 (Variable (Scoped 0 0)) no_trees) ∷ [] } ∷ [];
       initializers = record { code = 0; self = Nil; target = None } ∷ [];
       literals = (literal_string (120 ∷ []) ∷ []) ++ trouble_literals;
       trouble_place = 1;
@@ -222,13 +222,13 @@ retried_in_35_steps =
       names = (codes "value") ∷ (codes "value:") ∷ (codes "value:value:") ∷ (61 ∷ []) ∷ (codes "defaultAction") ∷ (codes "isResumable") ∷ (codes "handles:") ∷ (codes "doesNotUnderstand:") ∷ (codes "printString") ∷ (43 ∷ []) ∷ (60 ∷ []) ∷ (codes "signal") ∷ (codes "ifTrue:") ∷ (codes "show:") ∷ (codes "ensure:") ∷ (codes "retry") ∷ (codes "on:do:") ∷ [];
       classes = built_in_class_rows;
       methods = [];
-      bodies = 
-        record { kind = InInitializer; class = Class 1; parameters = 0; captured = true ∷ []; outer = None; statements = Plain (Assign (Scoped 0 0) (Constant (Integer (pos 0)))) ∷ Plain (Send 16 (Block 1) (more_trees (Constant (Class 24)) (more_trees (Block 5) no_trees))) ∷ Plain (Send 13 (Constant Transcript) (more_trees (Send 8 (Variable (Scoped 0 0)) no_trees) no_trees)) ∷ [] } ∷
-        record { kind = InBlock; class = Class 1; parameters = 0; captured = []; outer = (Some 0); statements = Plain (Send 14 (Block 2) (more_trees (Block 4) no_trees)) ∷ [] } ∷
-        record { kind = InBlock; class = Class 1; parameters = 0; captured = []; outer = (Some 1); statements = Plain (Assign (Scoped 2 0) (Send 9 (Variable (Scoped 2 0)) (more_trees (Constant (Integer (pos 1))) no_trees))) ∷ Plain (Send 12 (Send 10 (Variable (Scoped 2 0)) (more_trees (Constant (Integer (pos 3))) no_trees)) (more_trees (Block 3) no_trees)) ∷ Plain (Variable (Scoped 2 0)) ∷ [] } ∷
-        record { kind = InBlock; class = Class 1; parameters = 0; captured = []; outer = (Some 2); statements = Plain (Send 11 (Constant (Class 24)) no_trees) ∷ [] } ∷
-        record { kind = InBlock; class = Class 1; parameters = 0; captured = []; outer = (Some 1); statements = Plain (Send 13 (Constant Transcript) (more_trees (Constant (Object 0)) no_trees)) ∷ [] } ∷
-        record { kind = InBlock; class = Class 1; parameters = 1; captured = false ∷ []; outer = (Some 0); statements = Plain (Send 15 (Variable (Scoped 0 0)) no_trees) ∷ [] } ∷ [];
+      bodies =
+          record { kind = InInitializer; class = Class 1; parameters = 0; captured = true ∷ []; outer = None; statements = Plain (Assign (Scoped 0 0) (Constant (Integer (pos 0)))) ∷ Plain (Send 16 (Block 1) (more_trees (Constant (Class 24)) (more_trees (Block 5) no_trees))) ∷ Plain (Send 13 (Constant Transcript) (more_trees (Send 8 (Variable (Scoped 0 0)) no_trees) no_trees)) ∷ [] } ∷
+          record { kind = InBlock; class = Class 1; parameters = 0; captured = []; outer = (Some 0); statements = Plain (Send 14 (Block 2) (more_trees (Block 4) no_trees)) ∷ [] } ∷
+          record { kind = InBlock; class = Class 1; parameters = 0; captured = []; outer = (Some 1); statements = Plain (Assign (Scoped 2 0) (Send 9 (Variable (Scoped 2 0)) (more_trees (Constant (Integer (pos 1))) no_trees))) ∷ Plain (Send 12 (Send 10 (Variable (Scoped 2 0)) (more_trees (Constant (Integer (pos 3))) no_trees)) (more_trees (Block 3) no_trees)) ∷ Plain (Variable (Scoped 2 0)) ∷ [] } ∷
+          record { kind = InBlock; class = Class 1; parameters = 0; captured = []; outer = (Some 2); statements = Plain (Send 11 (Constant (Class 24)) no_trees) ∷ [] } ∷
+          record { kind = InBlock; class = Class 1; parameters = 0; captured = []; outer = (Some 1); statements = Plain (Send 13 (Constant Transcript) (more_trees (Constant (Object 0)) no_trees)) ∷ [] } ∷
+          record { kind = InBlock; class = Class 1; parameters = 1; captured = false ∷ []; outer = (Some 0); statements = Plain (Send 15 (Variable (Scoped 0 0)) no_trees) ∷ [] } ∷ [];
       initializers = record { code = 0; self = Nil; target = None } ∷ [];
       literals = (literal_string (120 ∷ []) ∷ []) ++ trouble_literals;
       trouble_place = 1;
@@ -250,13 +250,13 @@ retried_in_34_steps =
       names = (codes "value") ∷ (codes "value:") ∷ (codes "value:value:") ∷ (61 ∷ []) ∷ (codes "defaultAction") ∷ (codes "isResumable") ∷ (codes "handles:") ∷ (codes "doesNotUnderstand:") ∷ (codes "printString") ∷ (43 ∷ []) ∷ (60 ∷ []) ∷ (codes "signal") ∷ (codes "ifTrue:") ∷ (codes "show:") ∷ (codes "ensure:") ∷ (codes "retry") ∷ (codes "on:do:") ∷ [];
       classes = built_in_class_rows;
       methods = [];
-      bodies = 
-        record { kind = InInitializer; class = Class 1; parameters = 0; captured = true ∷ []; outer = None; statements = Plain (Assign (Scoped 0 0) (Constant (Integer (pos 0)))) ∷ Plain (Send 16 (Block 1) (more_trees (Constant (Class 24)) (more_trees (Block 5) no_trees))) ∷ Plain (Send 13 (Constant Transcript) (more_trees (Send 8 (Variable (Scoped 0 0)) no_trees) no_trees)) ∷ [] } ∷
-        record { kind = InBlock; class = Class 1; parameters = 0; captured = []; outer = (Some 0); statements = Plain (Send 14 (Block 2) (more_trees (Block 4) no_trees)) ∷ [] } ∷
-        record { kind = InBlock; class = Class 1; parameters = 0; captured = []; outer = (Some 1); statements = Plain (Assign (Scoped 2 0) (Send 9 (Variable (Scoped 2 0)) (more_trees (Constant (Integer (pos 1))) no_trees))) ∷ Plain (Send 12 (Send 10 (Variable (Scoped 2 0)) (more_trees (Constant (Integer (pos 3))) no_trees)) (more_trees (Block 3) no_trees)) ∷ Plain (Variable (Scoped 2 0)) ∷ [] } ∷
-        record { kind = InBlock; class = Class 1; parameters = 0; captured = []; outer = (Some 2); statements = Plain (Send 11 (Constant (Class 24)) no_trees) ∷ [] } ∷
-        record { kind = InBlock; class = Class 1; parameters = 0; captured = []; outer = (Some 1); statements = Plain (Send 13 (Constant Transcript) (more_trees (Constant (Object 0)) no_trees)) ∷ [] } ∷
-        record { kind = InBlock; class = Class 1; parameters = 1; captured = false ∷ []; outer = (Some 0); statements = Plain (Send 15 (Variable (Scoped 0 0)) no_trees) ∷ [] } ∷ [];
+      bodies =
+          record { kind = InInitializer; class = Class 1; parameters = 0; captured = true ∷ []; outer = None; statements = Plain (Assign (Scoped 0 0) (Constant (Integer (pos 0)))) ∷ Plain (Send 16 (Block 1) (more_trees (Constant (Class 24)) (more_trees (Block 5) no_trees))) ∷ Plain (Send 13 (Constant Transcript) (more_trees (Send 8 (Variable (Scoped 0 0)) no_trees) no_trees)) ∷ [] } ∷
+          record { kind = InBlock; class = Class 1; parameters = 0; captured = []; outer = (Some 0); statements = Plain (Send 14 (Block 2) (more_trees (Block 4) no_trees)) ∷ [] } ∷
+          record { kind = InBlock; class = Class 1; parameters = 0; captured = []; outer = (Some 1); statements = Plain (Assign (Scoped 2 0) (Send 9 (Variable (Scoped 2 0)) (more_trees (Constant (Integer (pos 1))) no_trees))) ∷ Plain (Send 12 (Send 10 (Variable (Scoped 2 0)) (more_trees (Constant (Integer (pos 3))) no_trees)) (more_trees (Block 3) no_trees)) ∷ Plain (Variable (Scoped 2 0)) ∷ [] } ∷
+          record { kind = InBlock; class = Class 1; parameters = 0; captured = []; outer = (Some 2); statements = Plain (Send 11 (Constant (Class 24)) no_trees) ∷ [] } ∷
+          record { kind = InBlock; class = Class 1; parameters = 0; captured = []; outer = (Some 1); statements = Plain (Send 13 (Constant Transcript) (more_trees (Constant (Object 0)) no_trees)) ∷ [] } ∷
+          record { kind = InBlock; class = Class 1; parameters = 1; captured = false ∷ []; outer = (Some 0); statements = Plain (Send 15 (Variable (Scoped 0 0)) no_trees) ∷ [] } ∷ [];
       initializers = record { code = 0; self = Nil; target = None } ∷ [];
       literals = (literal_string (120 ∷ []) ∷ []) ++ trouble_literals;
       trouble_place = 1;
@@ -278,10 +278,10 @@ handled_at_depth_5 =
       names = (codes "value") ∷ (codes "value:") ∷ (codes "value:value:") ∷ (61 ∷ []) ∷ (codes "defaultAction") ∷ (codes "isResumable") ∷ (codes "handles:") ∷ (codes "doesNotUnderstand:") ∷ (codes "printString") ∷ (codes "signal") ∷ (codes "on:do:") ∷ (codes "show:") ∷ [];
       classes = built_in_class_rows;
       methods = [];
-      bodies = 
-        record { kind = InInitializer; class = Class 1; parameters = 0; captured = []; outer = None; statements = Plain (Send 11 (Constant Transcript) (more_trees (Send 8 (Send 10 (Block 1) (more_trees (Constant (Class 24)) (more_trees (Block 2) no_trees))) no_trees) no_trees)) ∷ [] } ∷
-        record { kind = InBlock; class = Class 1; parameters = 0; captured = []; outer = (Some 0); statements = Plain (Send 9 (Constant (Class 24)) no_trees) ∷ Plain (Constant (Integer (pos 1))) ∷ [] } ∷
-        record { kind = InBlock; class = Class 1; parameters = 1; captured = false ∷ []; outer = (Some 0); statements = Plain (Constant (Integer (pos 7))) ∷ [] } ∷ [];
+      bodies =
+          record { kind = InInitializer; class = Class 1; parameters = 0; captured = []; outer = None; statements = Plain (Send 11 (Constant Transcript) (more_trees (Send 8 (Send 10 (Block 1) (more_trees (Constant (Class 24)) (more_trees (Block 2) no_trees))) no_trees) no_trees)) ∷ [] } ∷
+          record { kind = InBlock; class = Class 1; parameters = 0; captured = []; outer = (Some 0); statements = Plain (Send 9 (Constant (Class 24)) no_trees) ∷ Plain (Constant (Integer (pos 1))) ∷ [] } ∷
+          record { kind = InBlock; class = Class 1; parameters = 1; captured = false ∷ []; outer = (Some 0); statements = Plain (Constant (Integer (pos 7))) ∷ [] } ∷ [];
       initializers = record { code = 0; self = Nil; target = None } ∷ [];
       literals = trouble_literals;
       trouble_place = 0;
@@ -303,10 +303,10 @@ handled_at_depth_6 =
       names = (codes "value") ∷ (codes "value:") ∷ (codes "value:value:") ∷ (61 ∷ []) ∷ (codes "defaultAction") ∷ (codes "isResumable") ∷ (codes "handles:") ∷ (codes "doesNotUnderstand:") ∷ (codes "printString") ∷ (codes "signal") ∷ (codes "on:do:") ∷ (codes "show:") ∷ [];
       classes = built_in_class_rows;
       methods = [];
-      bodies = 
-        record { kind = InInitializer; class = Class 1; parameters = 0; captured = []; outer = None; statements = Plain (Send 11 (Constant Transcript) (more_trees (Send 8 (Send 10 (Block 1) (more_trees (Constant (Class 24)) (more_trees (Block 2) no_trees))) no_trees) no_trees)) ∷ [] } ∷
-        record { kind = InBlock; class = Class 1; parameters = 0; captured = []; outer = (Some 0); statements = Plain (Send 9 (Constant (Class 24)) no_trees) ∷ Plain (Constant (Integer (pos 1))) ∷ [] } ∷
-        record { kind = InBlock; class = Class 1; parameters = 1; captured = false ∷ []; outer = (Some 0); statements = Plain (Constant (Integer (pos 7))) ∷ [] } ∷ [];
+      bodies =
+          record { kind = InInitializer; class = Class 1; parameters = 0; captured = []; outer = None; statements = Plain (Send 11 (Constant Transcript) (more_trees (Send 8 (Send 10 (Block 1) (more_trees (Constant (Class 24)) (more_trees (Block 2) no_trees))) no_trees) no_trees)) ∷ [] } ∷
+          record { kind = InBlock; class = Class 1; parameters = 0; captured = []; outer = (Some 0); statements = Plain (Send 9 (Constant (Class 24)) no_trees) ∷ Plain (Constant (Integer (pos 1))) ∷ [] } ∷
+          record { kind = InBlock; class = Class 1; parameters = 1; captured = false ∷ []; outer = (Some 0); statements = Plain (Constant (Integer (pos 7))) ∷ [] } ∷ [];
       initializers = record { code = 0; self = Nil; target = None } ∷ [];
       literals = trouble_literals;
       trouble_place = 0;
@@ -328,10 +328,10 @@ handled_with_7_cells =
       names = (codes "value") ∷ (codes "value:") ∷ (codes "value:value:") ∷ (61 ∷ []) ∷ (codes "defaultAction") ∷ (codes "isResumable") ∷ (codes "handles:") ∷ (codes "doesNotUnderstand:") ∷ (codes "printString") ∷ (codes "signal") ∷ (codes "on:do:") ∷ (codes "show:") ∷ [];
       classes = built_in_class_rows;
       methods = [];
-      bodies = 
-        record { kind = InInitializer; class = Class 1; parameters = 0; captured = []; outer = None; statements = Plain (Send 11 (Constant Transcript) (more_trees (Send 8 (Send 10 (Block 1) (more_trees (Constant (Class 24)) (more_trees (Block 2) no_trees))) no_trees) no_trees)) ∷ [] } ∷
-        record { kind = InBlock; class = Class 1; parameters = 0; captured = []; outer = (Some 0); statements = Plain (Send 9 (Constant (Class 24)) no_trees) ∷ Plain (Constant (Integer (pos 1))) ∷ [] } ∷
-        record { kind = InBlock; class = Class 1; parameters = 1; captured = false ∷ []; outer = (Some 0); statements = Plain (Constant (Integer (pos 7))) ∷ [] } ∷ [];
+      bodies =
+          record { kind = InInitializer; class = Class 1; parameters = 0; captured = []; outer = None; statements = Plain (Send 11 (Constant Transcript) (more_trees (Send 8 (Send 10 (Block 1) (more_trees (Constant (Class 24)) (more_trees (Block 2) no_trees))) no_trees) no_trees)) ∷ [] } ∷
+          record { kind = InBlock; class = Class 1; parameters = 0; captured = []; outer = (Some 0); statements = Plain (Send 9 (Constant (Class 24)) no_trees) ∷ Plain (Constant (Integer (pos 1))) ∷ [] } ∷
+          record { kind = InBlock; class = Class 1; parameters = 1; captured = false ∷ []; outer = (Some 0); statements = Plain (Constant (Integer (pos 7))) ∷ [] } ∷ [];
       initializers = record { code = 0; self = Nil; target = None } ∷ [];
       literals = trouble_literals;
       trouble_place = 0;
@@ -353,10 +353,10 @@ handled_with_8_cells =
       names = (codes "value") ∷ (codes "value:") ∷ (codes "value:value:") ∷ (61 ∷ []) ∷ (codes "defaultAction") ∷ (codes "isResumable") ∷ (codes "handles:") ∷ (codes "doesNotUnderstand:") ∷ (codes "printString") ∷ (codes "signal") ∷ (codes "on:do:") ∷ (codes "show:") ∷ [];
       classes = built_in_class_rows;
       methods = [];
-      bodies = 
-        record { kind = InInitializer; class = Class 1; parameters = 0; captured = []; outer = None; statements = Plain (Send 11 (Constant Transcript) (more_trees (Send 8 (Send 10 (Block 1) (more_trees (Constant (Class 24)) (more_trees (Block 2) no_trees))) no_trees) no_trees)) ∷ [] } ∷
-        record { kind = InBlock; class = Class 1; parameters = 0; captured = []; outer = (Some 0); statements = Plain (Send 9 (Constant (Class 24)) no_trees) ∷ Plain (Constant (Integer (pos 1))) ∷ [] } ∷
-        record { kind = InBlock; class = Class 1; parameters = 1; captured = false ∷ []; outer = (Some 0); statements = Plain (Constant (Integer (pos 7))) ∷ [] } ∷ [];
+      bodies =
+          record { kind = InInitializer; class = Class 1; parameters = 0; captured = []; outer = None; statements = Plain (Send 11 (Constant Transcript) (more_trees (Send 8 (Send 10 (Block 1) (more_trees (Constant (Class 24)) (more_trees (Block 2) no_trees))) no_trees) no_trees)) ∷ [] } ∷
+          record { kind = InBlock; class = Class 1; parameters = 0; captured = []; outer = (Some 0); statements = Plain (Send 9 (Constant (Class 24)) no_trees) ∷ Plain (Constant (Integer (pos 1))) ∷ [] } ∷
+          record { kind = InBlock; class = Class 1; parameters = 1; captured = false ∷ []; outer = (Some 0); statements = Plain (Constant (Integer (pos 7))) ∷ [] } ∷ [];
       initializers = record { code = 0; self = Nil; target = None } ∷ [];
       literals = trouble_literals;
       trouble_place = 0;
@@ -377,12 +377,12 @@ not_resumable =
       names = (codes "value") ∷ (codes "value:") ∷ (codes "value:value:") ∷ (61 ∷ []) ∷ (codes "defaultAction") ∷ (codes "isResumable") ∷ (codes "handles:") ∷ (codes "doesNotUnderstand:") ∷ (codes "printString") ∷ (codes "signal") ∷ (codes "resume:") ∷ (codes "on:do:") ∷ (codes "messageText") ∷ (codes "show:") ∷ [];
       classes = built_in_class_rows;
       methods = [];
-      bodies = 
-        record { kind = InInitializer; class = Class 1; parameters = 0; captured = []; outer = None; statements = Plain (Send 13 (Constant Transcript) (more_trees (Send 11 (Block 1) (more_trees (Constant (Class 24)) (more_trees (Block 4) no_trees))) no_trees)) ∷ [] } ∷
-        record { kind = InBlock; class = Class 1; parameters = 0; captured = []; outer = (Some 0); statements = Plain (Send 11 (Block 2) (more_trees (Constant (Class 24)) (more_trees (Block 3) no_trees))) ∷ [] } ∷
-        record { kind = InBlock; class = Class 1; parameters = 0; captured = []; outer = (Some 1); statements = Plain (Send 9 (Constant (Class 24)) no_trees) ∷ [] } ∷
-        record { kind = InBlock; class = Class 1; parameters = 1; captured = false ∷ []; outer = (Some 1); statements = Plain (Send 10 (Variable (Scoped 0 0)) (more_trees (Constant (Integer (pos 1))) no_trees)) ∷ [] } ∷
-        record { kind = InBlock; class = Class 1; parameters = 1; captured = false ∷ []; outer = (Some 0); statements = Plain (Send 12 (Variable (Scoped 0 0)) no_trees) ∷ [] } ∷ [];
+      bodies =
+          record { kind = InInitializer; class = Class 1; parameters = 0; captured = []; outer = None; statements = Plain (Send 13 (Constant Transcript) (more_trees (Send 11 (Block 1) (more_trees (Constant (Class 24)) (more_trees (Block 4) no_trees))) no_trees)) ∷ [] } ∷
+          record { kind = InBlock; class = Class 1; parameters = 0; captured = []; outer = (Some 0); statements = Plain (Send 11 (Block 2) (more_trees (Constant (Class 24)) (more_trees (Block 3) no_trees))) ∷ [] } ∷
+          record { kind = InBlock; class = Class 1; parameters = 0; captured = []; outer = (Some 1); statements = Plain (Send 9 (Constant (Class 24)) no_trees) ∷ [] } ∷
+          record { kind = InBlock; class = Class 1; parameters = 1; captured = false ∷ []; outer = (Some 1); statements = Plain (Send 10 (Variable (Scoped 0 0)) (more_trees (Constant (Integer (pos 1))) no_trees)) ∷ [] } ∷
+          record { kind = InBlock; class = Class 1; parameters = 1; captured = false ∷ []; outer = (Some 0); statements = Plain (Send 12 (Variable (Scoped 0 0)) no_trees) ∷ [] } ∷ [];
       initializers = record { code = 0; self = Nil; target = None } ∷ [];
       literals = trouble_literals;
       trouble_place = 0;
@@ -403,11 +403,11 @@ retry_using =
       names = (codes "value") ∷ (codes "value:") ∷ (codes "value:value:") ∷ (61 ∷ []) ∷ (codes "defaultAction") ∷ (codes "isResumable") ∷ (codes "handles:") ∷ (codes "doesNotUnderstand:") ∷ (codes "printString") ∷ (codes "signal") ∷ (codes "retryUsing:") ∷ (codes "on:do:") ∷ (codes "show:") ∷ [];
       classes = built_in_class_rows;
       methods = [];
-      bodies = 
-        record { kind = InInitializer; class = Class 1; parameters = 0; captured = []; outer = None; statements = Plain (Send 12 (Constant Transcript) (more_trees (Send 8 (Send 11 (Block 1) (more_trees (Constant (Class 24)) (more_trees (Block 2) no_trees))) no_trees) no_trees)) ∷ [] } ∷
-        record { kind = InBlock; class = Class 1; parameters = 0; captured = []; outer = (Some 0); statements = Plain (Send 9 (Constant (Class 24)) no_trees) ∷ Plain (Constant (Integer (pos 1))) ∷ [] } ∷
-        record { kind = InBlock; class = Class 1; parameters = 1; captured = false ∷ []; outer = (Some 0); statements = Plain (Send 10 (Variable (Scoped 0 0)) (more_trees (Block 3) no_trees)) ∷ [] } ∷
-        record { kind = InBlock; class = Class 1; parameters = 0; captured = []; outer = (Some 2); statements = Plain (Constant (Integer (pos 9))) ∷ [] } ∷ [];
+      bodies =
+          record { kind = InInitializer; class = Class 1; parameters = 0; captured = []; outer = None; statements = Plain (Send 12 (Constant Transcript) (more_trees (Send 8 (Send 11 (Block 1) (more_trees (Constant (Class 24)) (more_trees (Block 2) no_trees))) no_trees) no_trees)) ∷ [] } ∷
+          record { kind = InBlock; class = Class 1; parameters = 0; captured = []; outer = (Some 0); statements = Plain (Send 9 (Constant (Class 24)) no_trees) ∷ Plain (Constant (Integer (pos 1))) ∷ [] } ∷
+          record { kind = InBlock; class = Class 1; parameters = 1; captured = false ∷ []; outer = (Some 0); statements = Plain (Send 10 (Variable (Scoped 0 0)) (more_trees (Block 3) no_trees)) ∷ [] } ∷
+          record { kind = InBlock; class = Class 1; parameters = 0; captured = []; outer = (Some 2); statements = Plain (Constant (Integer (pos 9))) ∷ [] } ∷ [];
       initializers = record { code = 0; self = Nil; target = None } ∷ [];
       literals = trouble_literals;
       trouble_place = 0;
@@ -428,12 +428,12 @@ resignal_searches_outside =
       names = (codes "value") ∷ (codes "value:") ∷ (codes "value:value:") ∷ (61 ∷ []) ∷ (codes "defaultAction") ∷ (codes "isResumable") ∷ (codes "handles:") ∷ (codes "doesNotUnderstand:") ∷ (codes "printString") ∷ (codes "signal") ∷ (codes "on:do:") ∷ (codes "new") ∷ (codes "resignalAs:") ∷ (codes "show:") ∷ [];
       classes = built_in_class_rows;
       methods = [];
-      bodies = 
-        record { kind = InInitializer; class = Class 1; parameters = 0; captured = []; outer = None; statements = Plain (Send 13 (Constant Transcript) (more_trees (Send 8 (Send 10 (Block 1) (more_trees (Constant (Class 24)) (more_trees (Block 4) no_trees))) no_trees) no_trees)) ∷ [] } ∷
-        record { kind = InBlock; class = Class 1; parameters = 0; captured = []; outer = (Some 0); statements = Plain (Send 10 (Block 2) (more_trees (Constant (Class 28)) (more_trees (Block 3) no_trees))) ∷ [] } ∷
-        record { kind = InBlock; class = Class 1; parameters = 0; captured = []; outer = (Some 1); statements = Plain (Send 9 (Constant (Class 24)) no_trees) ∷ [] } ∷
-        record { kind = InBlock; class = Class 1; parameters = 1; captured = false ∷ []; outer = (Some 1); statements = Plain (Constant (Integer (pos 1))) ∷ [] } ∷
-        record { kind = InBlock; class = Class 1; parameters = 1; captured = false ∷ []; outer = (Some 0); statements = Plain (Send 12 (Variable (Scoped 0 0)) (more_trees (Send 11 (Constant (Class 28)) no_trees) no_trees)) ∷ [] } ∷ [];
+      bodies =
+          record { kind = InInitializer; class = Class 1; parameters = 0; captured = []; outer = None; statements = Plain (Send 13 (Constant Transcript) (more_trees (Send 8 (Send 10 (Block 1) (more_trees (Constant (Class 24)) (more_trees (Block 4) no_trees))) no_trees) no_trees)) ∷ [] } ∷
+          record { kind = InBlock; class = Class 1; parameters = 0; captured = []; outer = (Some 0); statements = Plain (Send 10 (Block 2) (more_trees (Constant (Class 28)) (more_trees (Block 3) no_trees))) ∷ [] } ∷
+          record { kind = InBlock; class = Class 1; parameters = 0; captured = []; outer = (Some 1); statements = Plain (Send 9 (Constant (Class 24)) no_trees) ∷ [] } ∷
+          record { kind = InBlock; class = Class 1; parameters = 1; captured = false ∷ []; outer = (Some 1); statements = Plain (Constant (Integer (pos 1))) ∷ [] } ∷
+          record { kind = InBlock; class = Class 1; parameters = 1; captured = false ∷ []; outer = (Some 0); statements = Plain (Send 12 (Variable (Scoped 0 0)) (more_trees (Send 11 (Constant (Class 28)) no_trees) no_trees)) ∷ [] } ∷ [];
       initializers = record { code = 0; self = Nil; target = None } ∷ [];
       literals = trouble_literals;
       trouble_place = 0;
@@ -454,9 +454,9 @@ notification =
       names = (codes "value") ∷ (codes "value:") ∷ (codes "value:value:") ∷ (61 ∷ []) ∷ (codes "defaultAction") ∷ (codes "isResumable") ∷ (codes "handles:") ∷ (codes "doesNotUnderstand:") ∷ (codes "printString") ∷ (codes "signal") ∷ (codes "show:") ∷ [];
       classes = built_in_class_rows;
       methods = [];
-      bodies = 
-        record { kind = InInitializer; class = Class 1; parameters = 0; captured = []; outer = None; statements = Plain (Send 10 (Constant Transcript) (more_trees (Send 8 (Send 0 (Block 1) no_trees) no_trees) no_trees)) ∷ [] } ∷
-        record { kind = InBlock; class = Class 1; parameters = 0; captured = []; outer = (Some 0); statements = Plain (Send 9 (Constant (Class 25)) no_trees) ∷ Plain (Constant (Integer (pos 3))) ∷ [] } ∷ [];
+      bodies =
+          record { kind = InInitializer; class = Class 1; parameters = 0; captured = []; outer = None; statements = Plain (Send 10 (Constant Transcript) (more_trees (Send 8 (Send 0 (Block 1) no_trees) no_trees) no_trees)) ∷ [] } ∷
+          record { kind = InBlock; class = Class 1; parameters = 0; captured = []; outer = (Some 0); statements = Plain (Send 9 (Constant (Class 25)) no_trees) ∷ Plain (Constant (Integer (pos 3))) ∷ [] } ∷ [];
       initializers = record { code = 0; self = Nil; target = None } ∷ [];
       literals = trouble_literals;
       trouble_place = 0;
@@ -477,8 +477,8 @@ warning =
       names = (codes "value") ∷ (codes "value:") ∷ (codes "value:value:") ∷ (61 ∷ []) ∷ (codes "defaultAction") ∷ (codes "isResumable") ∷ (codes "handles:") ∷ (codes "doesNotUnderstand:") ∷ (codes "printString") ∷ (codes "signal:") ∷ [];
       classes = built_in_class_rows;
       methods = [];
-      bodies = 
-        record { kind = InInitializer; class = Class 1; parameters = 0; captured = []; outer = None; statements = Plain (Send 9 (Constant (Class 28)) (more_trees (Constant (Object 0)) no_trees)) ∷ [] } ∷ [];
+      bodies =
+          record { kind = InInitializer; class = Class 1; parameters = 0; captured = []; outer = None; statements = Plain (Send 9 (Constant (Class 28)) (more_trees (Constant (Object 0)) no_trees)) ∷ [] } ∷ [];
       initializers = record { code = 0; self = Nil; target = None } ∷ [];
       literals = (literal_string (119 ∷ []) ∷ []) ++ trouble_literals;
       trouble_place = 1;
@@ -499,11 +499,11 @@ asked_selector =
       names = (codes "value") ∷ (codes "value:") ∷ (codes "value:value:") ∷ (61 ∷ []) ∷ (codes "defaultAction") ∷ (codes "isResumable") ∷ (codes "handles:") ∷ (codes "doesNotUnderstand:") ∷ (codes "printString") ∷ (codes "messageText") ∷ (codes "signal:") ∷ (codes "new") ∷ (codes "on:do:") ∷ (codes "show:") ∷ [];
       classes = built_in_class_rows ++ record { name = 81 ∷ []; superclass = Some 0; in_file = true; indexed = NoIndexes; slots = 0; class_slots = 0 } ∷ [];
       methods = record { class = 30; side = OfInstance; selector = 6; code = 0 } ∷ [];
-      bodies = 
-        record { kind = InMethod; class = Class 30; parameters = 1; captured = false ∷ []; outer = None; statements = Return (Send 3 (Send 9 (Variable (Scoped 0 0)) no_trees) (more_trees (Constant (Object 0)) no_trees)) ∷ [] } ∷
-        record { kind = InInitializer; class = Class 1; parameters = 0; captured = []; outer = None; statements = Plain (Send 13 (Constant Transcript) (more_trees (Send 8 (Send 12 (Block 2) (more_trees (Send 11 (Constant (Class 30)) no_trees) (more_trees (Block 3) no_trees))) no_trees) no_trees)) ∷ [] } ∷
-        record { kind = InBlock; class = Class 1; parameters = 0; captured = []; outer = (Some 1); statements = Plain (Send 10 (Constant (Class 24)) (more_trees (Constant (Object 1)) no_trees)) ∷ Plain (Constant (Integer (pos 1))) ∷ [] } ∷
-        record { kind = InBlock; class = Class 1; parameters = 1; captured = false ∷ []; outer = (Some 1); statements = Plain (Constant (Integer (pos 7))) ∷ [] } ∷ [];
+      bodies =
+          record { kind = InMethod; class = Class 30; parameters = 1; captured = false ∷ []; outer = None; statements = Return (Send 3 (Send 9 (Variable (Scoped 0 0)) no_trees) (more_trees (Constant (Object 0)) no_trees)) ∷ [] } ∷
+          record { kind = InInitializer; class = Class 1; parameters = 0; captured = []; outer = None; statements = Plain (Send 13 (Constant Transcript) (more_trees (Send 8 (Send 12 (Block 2) (more_trees (Send 11 (Constant (Class 30)) no_trees) (more_trees (Block 3) no_trees))) no_trees) no_trees)) ∷ [] } ∷
+          record { kind = InBlock; class = Class 1; parameters = 0; captured = []; outer = (Some 1); statements = Plain (Send 10 (Constant (Class 24)) (more_trees (Constant (Object 1)) no_trees)) ∷ Plain (Constant (Integer (pos 1))) ∷ [] } ∷
+          record { kind = InBlock; class = Class 1; parameters = 1; captured = false ∷ []; outer = (Some 1); statements = Plain (Constant (Integer (pos 7))) ∷ [] } ∷ [];
       initializers = record { code = 1; self = Nil; target = None } ∷ [];
       literals = (literal_string (120 ∷ []) ∷ literal_string (120 ∷ []) ∷ []) ++ trouble_literals;
       trouble_place = 2;
@@ -524,13 +524,13 @@ asked_selector_no =
       names = (codes "value") ∷ (codes "value:") ∷ (codes "value:value:") ∷ (61 ∷ []) ∷ (codes "defaultAction") ∷ (codes "isResumable") ∷ (codes "handles:") ∷ (codes "doesNotUnderstand:") ∷ (codes "printString") ∷ (codes "messageText") ∷ (codes "signal:") ∷ (codes "new") ∷ (codes "on:do:") ∷ (codes "show:") ∷ [];
       classes = built_in_class_rows ++ record { name = 81 ∷ []; superclass = Some 0; in_file = true; indexed = NoIndexes; slots = 0; class_slots = 0 } ∷ [];
       methods = record { class = 30; side = OfInstance; selector = 6; code = 0 } ∷ [];
-      bodies = 
-        record { kind = InMethod; class = Class 30; parameters = 1; captured = false ∷ []; outer = None; statements = Return (Send 3 (Send 9 (Variable (Scoped 0 0)) no_trees) (more_trees (Constant (Object 0)) no_trees)) ∷ [] } ∷
-        record { kind = InInitializer; class = Class 1; parameters = 0; captured = []; outer = None; statements = Plain (Send 13 (Constant Transcript) (more_trees (Send 8 (Send 12 (Block 2) (more_trees (Constant (Class 24)) (more_trees (Block 5) no_trees))) no_trees) no_trees)) ∷ [] } ∷
-        record { kind = InBlock; class = Class 1; parameters = 0; captured = []; outer = (Some 1); statements = Plain (Send 12 (Block 3) (more_trees (Send 11 (Constant (Class 30)) no_trees) (more_trees (Block 4) no_trees))) ∷ [] } ∷
-        record { kind = InBlock; class = Class 1; parameters = 0; captured = []; outer = (Some 2); statements = Plain (Send 10 (Constant (Class 24)) (more_trees (Constant (Object 1)) no_trees)) ∷ Plain (Constant (Integer (pos 1))) ∷ [] } ∷
-        record { kind = InBlock; class = Class 1; parameters = 1; captured = false ∷ []; outer = (Some 2); statements = Plain (Constant (Integer (pos 7))) ∷ [] } ∷
-        record { kind = InBlock; class = Class 1; parameters = 1; captured = false ∷ []; outer = (Some 1); statements = Plain (Constant (Integer (pos 8))) ∷ [] } ∷ [];
+      bodies =
+          record { kind = InMethod; class = Class 30; parameters = 1; captured = false ∷ []; outer = None; statements = Return (Send 3 (Send 9 (Variable (Scoped 0 0)) no_trees) (more_trees (Constant (Object 0)) no_trees)) ∷ [] } ∷
+          record { kind = InInitializer; class = Class 1; parameters = 0; captured = []; outer = None; statements = Plain (Send 13 (Constant Transcript) (more_trees (Send 8 (Send 12 (Block 2) (more_trees (Constant (Class 24)) (more_trees (Block 5) no_trees))) no_trees) no_trees)) ∷ [] } ∷
+          record { kind = InBlock; class = Class 1; parameters = 0; captured = []; outer = (Some 1); statements = Plain (Send 12 (Block 3) (more_trees (Send 11 (Constant (Class 30)) no_trees) (more_trees (Block 4) no_trees))) ∷ [] } ∷
+          record { kind = InBlock; class = Class 1; parameters = 0; captured = []; outer = (Some 2); statements = Plain (Send 10 (Constant (Class 24)) (more_trees (Constant (Object 1)) no_trees)) ∷ Plain (Constant (Integer (pos 1))) ∷ [] } ∷
+          record { kind = InBlock; class = Class 1; parameters = 1; captured = false ∷ []; outer = (Some 2); statements = Plain (Constant (Integer (pos 7))) ∷ [] } ∷
+          record { kind = InBlock; class = Class 1; parameters = 1; captured = false ∷ []; outer = (Some 1); statements = Plain (Constant (Integer (pos 8))) ∷ [] } ∷ [];
       initializers = record { code = 1; self = Nil; target = None } ∷ [];
       literals = (literal_string (120 ∷ []) ∷ literal_string (121 ∷ []) ∷ []) ++ trouble_literals;
       trouble_place = 2;
@@ -551,13 +551,13 @@ question_outside =
       names = (codes "value") ∷ (codes "value:") ∷ (codes "value:value:") ∷ (61 ∷ []) ∷ (codes "defaultAction") ∷ (codes "isResumable") ∷ (codes "handles:") ∷ (codes "doesNotUnderstand:") ∷ (codes "printString") ∷ (codes "signal:") ∷ (codes "new") ∷ (codes "on:do:") ∷ (codes "messageText") ∷ (codes "return:") ∷ (codes "show:") ∷ [];
       classes = built_in_class_rows ++ record { name = 81 ∷ []; superclass = Some 0; in_file = true; indexed = NoIndexes; slots = 0; class_slots = 0 } ∷ [];
       methods = record { class = 30; side = OfInstance; selector = 6; code = 0 } ∷ [];
-      bodies = 
-        record { kind = InMethod; class = Class 30; parameters = 1; captured = false ∷ []; outer = None; statements = Return (Send 9 (Constant (Class 24)) (more_trees (Constant (Object 0)) no_trees)) ∷ [] } ∷
-        record { kind = InInitializer; class = Class 1; parameters = 0; captured = []; outer = None; statements = Plain (Send 14 (Constant Transcript) (more_trees (Send 11 (Block 2) (more_trees (Constant (Class 24)) (more_trees (Block 5) no_trees))) no_trees)) ∷ [] } ∷
-        record { kind = InBlock; class = Class 1; parameters = 0; captured = []; outer = (Some 1); statements = Plain (Send 11 (Block 3) (more_trees (Send 10 (Constant (Class 30)) no_trees) (more_trees (Block 4) no_trees))) ∷ [] } ∷
-        record { kind = InBlock; class = Class 1; parameters = 0; captured = []; outer = (Some 2); statements = Plain (Send 9 (Constant (Class 24)) (more_trees (Constant (Object 1)) no_trees)) ∷ [] } ∷
-        record { kind = InBlock; class = Class 1; parameters = 1; captured = false ∷ []; outer = (Some 2); statements = Plain (Constant (Object 2)) ∷ [] } ∷
-        record { kind = InBlock; class = Class 1; parameters = 1; captured = false ∷ []; outer = (Some 1); statements = Plain (Send 13 (Variable (Scoped 0 0)) (more_trees (Send 12 (Variable (Scoped 0 0)) no_trees) no_trees)) ∷ [] } ∷ [];
+      bodies =
+          record { kind = InMethod; class = Class 30; parameters = 1; captured = false ∷ []; outer = None; statements = Return (Send 9 (Constant (Class 24)) (more_trees (Constant (Object 0)) no_trees)) ∷ [] } ∷
+          record { kind = InInitializer; class = Class 1; parameters = 0; captured = []; outer = None; statements = Plain (Send 14 (Constant Transcript) (more_trees (Send 11 (Block 2) (more_trees (Constant (Class 24)) (more_trees (Block 5) no_trees))) no_trees)) ∷ [] } ∷
+          record { kind = InBlock; class = Class 1; parameters = 0; captured = []; outer = (Some 1); statements = Plain (Send 11 (Block 3) (more_trees (Send 10 (Constant (Class 30)) no_trees) (more_trees (Block 4) no_trees))) ∷ [] } ∷
+          record { kind = InBlock; class = Class 1; parameters = 0; captured = []; outer = (Some 2); statements = Plain (Send 9 (Constant (Class 24)) (more_trees (Constant (Object 1)) no_trees)) ∷ [] } ∷
+          record { kind = InBlock; class = Class 1; parameters = 1; captured = false ∷ []; outer = (Some 2); statements = Plain (Constant (Object 2)) ∷ [] } ∷
+          record { kind = InBlock; class = Class 1; parameters = 1; captured = false ∷ []; outer = (Some 1); statements = Plain (Send 13 (Variable (Scoped 0 0)) (more_trees (Send 12 (Variable (Scoped 0 0)) no_trees) no_trees)) ∷ [] } ∷ [];
       initializers = record { code = 1; self = Nil; target = None } ∷ [];
       literals = (literal_string (122 ∷ []) ∷ literal_string (120 ∷ []) ∷ literal_string (codes "in") ∷ []) ++ trouble_literals;
       trouble_place = 3;

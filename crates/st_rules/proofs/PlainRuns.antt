@@ -1,10 +1,10 @@
 -- Runs of sends, numbers, blocks, loops and collections. Each is computed by the rules and by both machines.
-use Rattle.std.proofs.Common.{◌≡◌, ℕ, List, [], ◌∷◌, ◌++◌, refl, true, false, Some, None, pos, negsuc}
+use Rattle.std.proofs.Common.{[], ◌∷◌, ◌++◌, refl, true, false, Some, None, pos, negsuc}
 use Rattle.std.specs.Prelude.{codes}
-use Rattle.object_heap.specs.declared.value.Value.TheVariants.{Nil, True, False, Integer, Character, Symbol, Class, Meta, Transcript, Object}
-use Rattle.st_code.specs.Program.{Program, Scoped, Slot, ClassSlot, Shared, Tree, Constant, Self, Variable, Assign, Block, Send, SuperSend, Cascade, SuperCascade, Trees, no_trees, more_trees, Messages, no_messages, more_messages, Plain, Return, InMethod, InBlock, InInitializer, OfInstance, OfClass, NoIndexes, ByObject, ByByte}
+use Rattle.object_heap.specs.declared.value.Value.TheVariants.{Nil, True, Integer, Class, Transcript, Object}
+use Rattle.st_code.specs.Program.{Program, Scoped, Shared, Constant, Variable, Assign, Block, Send, Cascade, SuperCascade, no_trees, more_trees, no_messages, more_messages, Plain, Return, InMethod, InBlock, InInitializer, OfInstance, NoIndexes}
 use Rattle.st_rules.specs.Events.{Event}
-use Rattle.st_rules.specs.State.{StepLimit, DepthLimit, CellLimit, IntegerLimit}
+use Rattle.st_rules.specs.State.{IntegerLimit}
 use Rattle.st_rules.specs.BuiltIns.{built_in_class_rows}
 use Rattle.st_rules.specs.Literals.{literal_string, literal_array, trouble_literals}
 use Rattle.st_rules.proofs.Computing.{Reports, computing, WasDone, WasUnhandled, WasAtLimit}
@@ -16,8 +16,8 @@ first_line =
       names = (codes "value") ∷ (codes "value:") ∷ (codes "value:value:") ∷ (61 ∷ []) ∷ (codes "defaultAction") ∷ (codes "isResumable") ∷ (codes "handles:") ∷ (codes "doesNotUnderstand:") ∷ (codes "printString") ∷ (codes "show:") ∷ (codes "cr") ∷ [];
       classes = built_in_class_rows;
       methods = [];
-      bodies = 
-        record { kind = InInitializer; class = Class 1; parameters = 0; captured = []; outer = None; statements = Plain (Cascade (Constant Transcript) (more_messages 9 (more_trees (Constant (Object 0)) no_trees) (more_messages 10 no_trees no_messages))) ∷ [] } ∷ [];
+      bodies =
+          record { kind = InInitializer; class = Class 1; parameters = 0; captured = []; outer = None; statements = Plain (Cascade (Constant Transcript) (more_messages 9 (more_trees (Constant (Object 0)) no_trees) (more_messages 10 no_trees no_messages))) ∷ [] } ∷ [];
       initializers = record { code = 0; self = Nil; target = None } ∷ [];
       literals = (literal_string (codes "hi") ∷ []) ++ trouble_literals;
       trouble_place = 1;
@@ -38,9 +38,9 @@ method_sent =
       names = (codes "value") ∷ (codes "value:") ∷ (codes "value:value:") ∷ (61 ∷ []) ∷ (codes "defaultAction") ∷ (codes "isResumable") ∷ (codes "handles:") ∷ (codes "doesNotUnderstand:") ∷ (codes "printString") ∷ (43 ∷ []) ∷ (codes "twice:") ∷ (codes "new") ∷ (codes "show:") ∷ [];
       classes = built_in_class_rows ++ record { name = 81 ∷ []; superclass = Some 0; in_file = true; indexed = NoIndexes; slots = 0; class_slots = 0 } ∷ [];
       methods = record { class = 30; side = OfInstance; selector = 10; code = 0 } ∷ [];
-      bodies = 
-        record { kind = InMethod; class = Class 30; parameters = 1; captured = false ∷ []; outer = None; statements = Return (Send 9 (Variable (Scoped 0 0)) (more_trees (Variable (Scoped 0 0)) no_trees)) ∷ [] } ∷
-        record { kind = InInitializer; class = Class 1; parameters = 0; captured = []; outer = None; statements = Plain (Send 12 (Constant Transcript) (more_trees (Send 8 (Send 10 (Send 11 (Constant (Class 30)) no_trees) (more_trees (Constant (Integer (pos 21))) no_trees)) no_trees) no_trees)) ∷ [] } ∷ [];
+      bodies =
+          record { kind = InMethod; class = Class 30; parameters = 1; captured = false ∷ []; outer = None; statements = Return (Send 9 (Variable (Scoped 0 0)) (more_trees (Variable (Scoped 0 0)) no_trees)) ∷ [] } ∷
+          record { kind = InInitializer; class = Class 1; parameters = 0; captured = []; outer = None; statements = Plain (Send 12 (Constant Transcript) (more_trees (Send 8 (Send 10 (Send 11 (Constant (Class 30)) no_trees) (more_trees (Constant (Integer (pos 21))) no_trees)) no_trees) no_trees)) ∷ [] } ∷ [];
       initializers = record { code = 1; self = Nil; target = None } ∷ [];
       literals = trouble_literals;
       trouble_place = 0;
@@ -61,10 +61,10 @@ while_loop =
       names = (codes "value") ∷ (codes "value:") ∷ (codes "value:value:") ∷ (61 ∷ []) ∷ (codes "defaultAction") ∷ (codes "isResumable") ∷ (codes "handles:") ∷ (codes "doesNotUnderstand:") ∷ (codes "printString") ∷ (60 ∷ []) ∷ (43 ∷ []) ∷ (codes "whileTrue:") ∷ (codes "show:") ∷ [];
       classes = built_in_class_rows;
       methods = [];
-      bodies = 
-        record { kind = InInitializer; class = Class 1; parameters = 0; captured = true ∷ []; outer = None; statements = Plain (Assign (Scoped 0 0) (Constant (Integer (pos 0)))) ∷ Plain (Send 11 (Block 1) (more_trees (Block 2) no_trees)) ∷ Plain (Send 12 (Constant Transcript) (more_trees (Send 8 (Variable (Scoped 0 0)) no_trees) no_trees)) ∷ [] } ∷
-        record { kind = InBlock; class = Class 1; parameters = 0; captured = []; outer = (Some 0); statements = Plain (Send 9 (Variable (Scoped 1 0)) (more_trees (Constant (Integer (pos 3))) no_trees)) ∷ [] } ∷
-        record { kind = InBlock; class = Class 1; parameters = 0; captured = []; outer = (Some 0); statements = Plain (Assign (Scoped 1 0) (Send 10 (Variable (Scoped 1 0)) (more_trees (Constant (Integer (pos 1))) no_trees))) ∷ [] } ∷ [];
+      bodies =
+          record { kind = InInitializer; class = Class 1; parameters = 0; captured = true ∷ []; outer = None; statements = Plain (Assign (Scoped 0 0) (Constant (Integer (pos 0)))) ∷ Plain (Send 11 (Block 1) (more_trees (Block 2) no_trees)) ∷ Plain (Send 12 (Constant Transcript) (more_trees (Send 8 (Variable (Scoped 0 0)) no_trees) no_trees)) ∷ [] } ∷
+          record { kind = InBlock; class = Class 1; parameters = 0; captured = []; outer = (Some 0); statements = Plain (Send 9 (Variable (Scoped 1 0)) (more_trees (Constant (Integer (pos 3))) no_trees)) ∷ [] } ∷
+          record { kind = InBlock; class = Class 1; parameters = 0; captured = []; outer = (Some 0); statements = Plain (Assign (Scoped 1 0) (Send 10 (Variable (Scoped 1 0)) (more_trees (Constant (Integer (pos 1))) no_trees))) ∷ [] } ∷ [];
       initializers = record { code = 0; self = Nil; target = None } ∷ [];
       literals = trouble_literals;
       trouble_place = 0;
@@ -85,8 +85,8 @@ integer_limit =
       names = (codes "value") ∷ (codes "value:") ∷ (codes "value:value:") ∷ (61 ∷ []) ∷ (codes "defaultAction") ∷ (codes "isResumable") ∷ (codes "handles:") ∷ (codes "doesNotUnderstand:") ∷ (codes "printString") ∷ (43 ∷ []) ∷ [];
       classes = built_in_class_rows;
       methods = [];
-      bodies = 
-        record { kind = InInitializer; class = Class 1; parameters = 0; captured = []; outer = None; statements = Plain (Send 9 (Constant (Integer (pos 170141183460469231731687303715884105727))) (more_trees (Constant (Integer (pos 1))) no_trees)) ∷ [] } ∷ [];
+      bodies =
+          record { kind = InInitializer; class = Class 1; parameters = 0; captured = []; outer = None; statements = Plain (Send 9 (Constant (Integer (pos 170141183460469231731687303715884105727))) (more_trees (Constant (Integer (pos 1))) no_trees)) ∷ [] } ∷ [];
       initializers = record { code = 0; self = Nil; target = None } ∷ [];
       literals = trouble_literals;
       trouble_place = 0;
@@ -107,8 +107,8 @@ not_understood =
       names = (codes "value") ∷ (codes "value:") ∷ (codes "value:value:") ∷ (61 ∷ []) ∷ (codes "defaultAction") ∷ (codes "isResumable") ∷ (codes "handles:") ∷ (codes "doesNotUnderstand:") ∷ (codes "printString") ∷ (codes "foo") ∷ [];
       classes = built_in_class_rows;
       methods = [];
-      bodies = 
-        record { kind = InInitializer; class = Class 1; parameters = 0; captured = []; outer = None; statements = Plain (Send 9 (Constant (Integer (pos 3))) no_trees) ∷ [] } ∷ [];
+      bodies =
+          record { kind = InInitializer; class = Class 1; parameters = 0; captured = []; outer = None; statements = Plain (Send 9 (Constant (Integer (pos 3))) no_trees) ∷ [] } ∷ [];
       initializers = record { code = 0; self = Nil; target = None } ∷ [];
       literals = trouble_literals;
       trouble_place = 0;
@@ -129,10 +129,10 @@ not_understood_resumed =
       names = (codes "value") ∷ (codes "value:") ∷ (codes "value:value:") ∷ (61 ∷ []) ∷ (codes "defaultAction") ∷ (codes "isResumable") ∷ (codes "handles:") ∷ (codes "doesNotUnderstand:") ∷ (codes "printString") ∷ (codes "foo") ∷ (43 ∷ []) ∷ (codes "resume:") ∷ (codes "on:do:") ∷ (codes "show:") ∷ [];
       classes = built_in_class_rows;
       methods = [];
-      bodies = 
-        record { kind = InInitializer; class = Class 1; parameters = 0; captured = []; outer = None; statements = Plain (Send 13 (Constant Transcript) (more_trees (Send 8 (Send 12 (Block 1) (more_trees (Constant (Class 27)) (more_trees (Block 2) no_trees))) no_trees) no_trees)) ∷ [] } ∷
-        record { kind = InBlock; class = Class 1; parameters = 0; captured = []; outer = (Some 0); statements = Plain (Send 10 (Send 9 (Constant (Integer (pos 3))) no_trees) (more_trees (Constant (Integer (pos 1))) no_trees)) ∷ [] } ∷
-        record { kind = InBlock; class = Class 1; parameters = 1; captured = false ∷ []; outer = (Some 0); statements = Plain (Send 11 (Variable (Scoped 0 0)) (more_trees (Constant (Integer (pos 41))) no_trees)) ∷ [] } ∷ [];
+      bodies =
+          record { kind = InInitializer; class = Class 1; parameters = 0; captured = []; outer = None; statements = Plain (Send 13 (Constant Transcript) (more_trees (Send 8 (Send 12 (Block 1) (more_trees (Constant (Class 27)) (more_trees (Block 2) no_trees))) no_trees) no_trees)) ∷ [] } ∷
+          record { kind = InBlock; class = Class 1; parameters = 0; captured = []; outer = (Some 0); statements = Plain (Send 10 (Send 9 (Constant (Integer (pos 3))) no_trees) (more_trees (Constant (Integer (pos 1))) no_trees)) ∷ [] } ∷
+          record { kind = InBlock; class = Class 1; parameters = 1; captured = false ∷ []; outer = (Some 0); statements = Plain (Send 11 (Variable (Scoped 0 0)) (more_trees (Constant (Integer (pos 41))) no_trees)) ∷ [] } ∷ [];
       initializers = record { code = 0; self = Nil; target = None } ∷ [];
       literals = trouble_literals;
       trouble_place = 0;
@@ -153,10 +153,10 @@ zero_divide_resumed =
       names = (codes "value") ∷ (codes "value:") ∷ (codes "value:value:") ∷ (61 ∷ []) ∷ (codes "defaultAction") ∷ (codes "isResumable") ∷ (codes "handles:") ∷ (codes "doesNotUnderstand:") ∷ (codes "printString") ∷ (codes "//") ∷ (43 ∷ []) ∷ (codes "resume:") ∷ (codes "on:do:") ∷ (codes "show:") ∷ [];
       classes = built_in_class_rows;
       methods = [];
-      bodies = 
-        record { kind = InInitializer; class = Class 1; parameters = 0; captured = []; outer = None; statements = Plain (Send 13 (Constant Transcript) (more_trees (Send 8 (Send 12 (Block 1) (more_trees (Constant (Class 26)) (more_trees (Block 2) no_trees))) no_trees) no_trees)) ∷ [] } ∷
-        record { kind = InBlock; class = Class 1; parameters = 0; captured = []; outer = (Some 0); statements = Plain (Send 10 (Send 9 (Constant (Integer (pos 7))) (more_trees (Constant (Integer (pos 0))) no_trees)) (more_trees (Constant (Integer (pos 1))) no_trees)) ∷ [] } ∷
-        record { kind = InBlock; class = Class 1; parameters = 1; captured = false ∷ []; outer = (Some 0); statements = Plain (Send 11 (Variable (Scoped 0 0)) (more_trees (Constant (Integer (pos 5))) no_trees)) ∷ [] } ∷ [];
+      bodies =
+          record { kind = InInitializer; class = Class 1; parameters = 0; captured = []; outer = None; statements = Plain (Send 13 (Constant Transcript) (more_trees (Send 8 (Send 12 (Block 1) (more_trees (Constant (Class 26)) (more_trees (Block 2) no_trees))) no_trees) no_trees)) ∷ [] } ∷
+          record { kind = InBlock; class = Class 1; parameters = 0; captured = []; outer = (Some 0); statements = Plain (Send 10 (Send 9 (Constant (Integer (pos 7))) (more_trees (Constant (Integer (pos 0))) no_trees)) (more_trees (Constant (Integer (pos 1))) no_trees)) ∷ [] } ∷
+          record { kind = InBlock; class = Class 1; parameters = 1; captured = false ∷ []; outer = (Some 0); statements = Plain (Send 11 (Variable (Scoped 0 0)) (more_trees (Constant (Integer (pos 5))) no_trees)) ∷ [] } ∷ [];
       initializers = record { code = 0; self = Nil; target = None } ∷ [];
       literals = trouble_literals;
       trouble_place = 0;
@@ -177,8 +177,8 @@ fractions_added =
       names = (codes "value") ∷ (codes "value:") ∷ (codes "value:value:") ∷ (61 ∷ []) ∷ (codes "defaultAction") ∷ (codes "isResumable") ∷ (codes "handles:") ∷ (codes "doesNotUnderstand:") ∷ (codes "printString") ∷ (47 ∷ []) ∷ (43 ∷ []) ∷ (codes "show:") ∷ [];
       classes = built_in_class_rows;
       methods = [];
-      bodies = 
-        record { kind = InInitializer; class = Class 1; parameters = 0; captured = []; outer = None; statements = Plain (Send 11 (Constant Transcript) (more_trees (Send 8 (Send 10 (Send 9 (Constant (Integer (pos 1))) (more_trees (Constant (Integer (pos 3))) no_trees)) (more_trees (Send 9 (Constant (Integer (pos 1))) (more_trees (Constant (Integer (pos 6))) no_trees)) no_trees)) no_trees) no_trees)) ∷ [] } ∷ [];
+      bodies =
+          record { kind = InInitializer; class = Class 1; parameters = 0; captured = []; outer = None; statements = Plain (Send 11 (Constant Transcript) (more_trees (Send 8 (Send 10 (Send 9 (Constant (Integer (pos 1))) (more_trees (Constant (Integer (pos 3))) no_trees)) (more_trees (Send 9 (Constant (Integer (pos 1))) (more_trees (Constant (Integer (pos 6))) no_trees)) no_trees)) no_trees) no_trees)) ∷ [] } ∷ [];
       initializers = record { code = 0; self = Nil; target = None } ∷ [];
       literals = trouble_literals;
       trouble_place = 0;
@@ -199,8 +199,8 @@ negative_quotient =
       names = (codes "value") ∷ (codes "value:") ∷ (codes "value:value:") ∷ (61 ∷ []) ∷ (codes "defaultAction") ∷ (codes "isResumable") ∷ (codes "handles:") ∷ (codes "doesNotUnderstand:") ∷ (codes "printString") ∷ (47 ∷ []) ∷ (codes "show:") ∷ [];
       classes = built_in_class_rows;
       methods = [];
-      bodies = 
-        record { kind = InInitializer; class = Class 1; parameters = 0; captured = []; outer = None; statements = Plain (Send 10 (Constant Transcript) (more_trees (Send 8 (Send 9 (Constant (Integer (pos 6))) (more_trees (Constant (Integer (negsuc 3))) no_trees)) no_trees) no_trees)) ∷ [] } ∷ [];
+      bodies =
+          record { kind = InInitializer; class = Class 1; parameters = 0; captured = []; outer = None; statements = Plain (Send 10 (Constant Transcript) (more_trees (Send 8 (Send 9 (Constant (Integer (pos 6))) (more_trees (Constant (Integer (negsuc 3))) no_trees)) no_trees) no_trees)) ∷ [] } ∷ [];
       initializers = record { code = 0; self = Nil; target = None } ∷ [];
       literals = trouble_literals;
       trouble_place = 0;
@@ -221,8 +221,8 @@ whole_quotient =
       names = (codes "value") ∷ (codes "value:") ∷ (codes "value:value:") ∷ (61 ∷ []) ∷ (codes "defaultAction") ∷ (codes "isResumable") ∷ (codes "handles:") ∷ (codes "doesNotUnderstand:") ∷ (codes "printString") ∷ (47 ∷ []) ∷ (codes "show:") ∷ [];
       classes = built_in_class_rows;
       methods = [];
-      bodies = 
-        record { kind = InInitializer; class = Class 1; parameters = 0; captured = []; outer = None; statements = Plain (Send 10 (Constant Transcript) (more_trees (Send 8 (Send 9 (Constant (Integer (pos 6))) (more_trees (Constant (Integer (pos 3))) no_trees)) no_trees) no_trees)) ∷ [] } ∷ [];
+      bodies =
+          record { kind = InInitializer; class = Class 1; parameters = 0; captured = []; outer = None; statements = Plain (Send 10 (Constant Transcript) (more_trees (Send 8 (Send 9 (Constant (Integer (pos 6))) (more_trees (Constant (Integer (pos 3))) no_trees)) no_trees) no_trees)) ∷ [] } ∷ [];
       initializers = record { code = 0; self = Nil; target = None } ∷ [];
       literals = trouble_literals;
       trouble_place = 0;
@@ -243,8 +243,8 @@ fractions_compared =
       names = (codes "value") ∷ (codes "value:") ∷ (codes "value:value:") ∷ (61 ∷ []) ∷ (codes "defaultAction") ∷ (codes "isResumable") ∷ (codes "handles:") ∷ (codes "doesNotUnderstand:") ∷ (codes "printString") ∷ (47 ∷ []) ∷ (60 ∷ []) ∷ (codes "show:") ∷ [];
       classes = built_in_class_rows;
       methods = [];
-      bodies = 
-        record { kind = InInitializer; class = Class 1; parameters = 0; captured = []; outer = None; statements = Plain (Send 11 (Constant Transcript) (more_trees (Send 8 (Send 10 (Send 9 (Constant (Integer (pos 1))) (more_trees (Constant (Integer (pos 3))) no_trees)) (more_trees (Send 9 (Constant (Integer (pos 170141183460469231731687303715884105727))) (more_trees (Constant (Integer (pos 3))) no_trees)) no_trees)) no_trees) no_trees)) ∷ [] } ∷ [];
+      bodies =
+          record { kind = InInitializer; class = Class 1; parameters = 0; captured = []; outer = None; statements = Plain (Send 11 (Constant Transcript) (more_trees (Send 8 (Send 10 (Send 9 (Constant (Integer (pos 1))) (more_trees (Constant (Integer (pos 3))) no_trees)) (more_trees (Send 9 (Constant (Integer (pos 170141183460469231731687303715884105727))) (more_trees (Constant (Integer (pos 3))) no_trees)) no_trees)) no_trees) no_trees)) ∷ [] } ∷ [];
       initializers = record { code = 0; self = Nil; target = None } ∷ [];
       literals = trouble_literals;
       trouble_place = 0;
@@ -265,8 +265,8 @@ fraction_limit =
       names = (codes "value") ∷ (codes "value:") ∷ (codes "value:value:") ∷ (61 ∷ []) ∷ (codes "defaultAction") ∷ (codes "isResumable") ∷ (codes "handles:") ∷ (codes "doesNotUnderstand:") ∷ (codes "printString") ∷ (47 ∷ []) ∷ (43 ∷ []) ∷ (codes "show:") ∷ [];
       classes = built_in_class_rows;
       methods = [];
-      bodies = 
-        record { kind = InInitializer; class = Class 1; parameters = 0; captured = []; outer = None; statements = Plain (Send 11 (Constant Transcript) (more_trees (Send 8 (Send 10 (Send 9 (Constant (Integer (pos 1))) (more_trees (Constant (Integer (pos 170141183460469231731687303715884105727))) no_trees)) (more_trees (Send 9 (Constant (Integer (pos 1))) (more_trees (Constant (Integer (pos 2))) no_trees)) no_trees)) no_trees) no_trees)) ∷ [] } ∷ [];
+      bodies =
+          record { kind = InInitializer; class = Class 1; parameters = 0; captured = []; outer = None; statements = Plain (Send 11 (Constant Transcript) (more_trees (Send 8 (Send 10 (Send 9 (Constant (Integer (pos 1))) (more_trees (Constant (Integer (pos 170141183460469231731687303715884105727))) no_trees)) (more_trees (Send 9 (Constant (Integer (pos 1))) (more_trees (Constant (Integer (pos 2))) no_trees)) no_trees)) no_trees) no_trees)) ∷ [] } ∷ [];
       initializers = record { code = 0; self = Nil; target = None } ∷ [];
       literals = trouble_literals;
       trouble_place = 0;
@@ -287,10 +287,10 @@ fraction_by_zero =
       names = (codes "value") ∷ (codes "value:") ∷ (codes "value:value:") ∷ (61 ∷ []) ∷ (codes "defaultAction") ∷ (codes "isResumable") ∷ (codes "handles:") ∷ (codes "doesNotUnderstand:") ∷ (codes "printString") ∷ (47 ∷ []) ∷ (43 ∷ []) ∷ (codes "on:do:") ∷ (codes "show:") ∷ [];
       classes = built_in_class_rows;
       methods = [];
-      bodies = 
-        record { kind = InInitializer; class = Class 1; parameters = 0; captured = []; outer = None; statements = Plain (Send 12 (Constant Transcript) (more_trees (Send 8 (Send 11 (Block 1) (more_trees (Constant (Class 26)) (more_trees (Block 2) no_trees))) no_trees) no_trees)) ∷ [] } ∷
-        record { kind = InBlock; class = Class 1; parameters = 0; captured = []; outer = (Some 0); statements = Plain (Send 10 (Send 9 (Send 9 (Constant (Integer (pos 1))) (more_trees (Constant (Integer (pos 3))) no_trees)) (more_trees (Constant (Integer (pos 0))) no_trees)) (more_trees (Constant (Integer (pos 1))) no_trees)) ∷ [] } ∷
-        record { kind = InBlock; class = Class 1; parameters = 1; captured = false ∷ []; outer = (Some 0); statements = Plain (Constant (Integer (pos 0))) ∷ [] } ∷ [];
+      bodies =
+          record { kind = InInitializer; class = Class 1; parameters = 0; captured = []; outer = None; statements = Plain (Send 12 (Constant Transcript) (more_trees (Send 8 (Send 11 (Block 1) (more_trees (Constant (Class 26)) (more_trees (Block 2) no_trees))) no_trees) no_trees)) ∷ [] } ∷
+          record { kind = InBlock; class = Class 1; parameters = 0; captured = []; outer = (Some 0); statements = Plain (Send 10 (Send 9 (Send 9 (Constant (Integer (pos 1))) (more_trees (Constant (Integer (pos 3))) no_trees)) (more_trees (Constant (Integer (pos 0))) no_trees)) (more_trees (Constant (Integer (pos 1))) no_trees)) ∷ [] } ∷
+          record { kind = InBlock; class = Class 1; parameters = 1; captured = false ∷ []; outer = (Some 0); statements = Plain (Constant (Integer (pos 0))) ∷ [] } ∷ [];
       initializers = record { code = 0; self = Nil; target = None } ∷ [];
       literals = trouble_literals;
       trouble_place = 0;
@@ -311,9 +311,9 @@ injected =
       names = (codes "value") ∷ (codes "value:") ∷ (codes "value:value:") ∷ (61 ∷ []) ∷ (codes "defaultAction") ∷ (codes "isResumable") ∷ (codes "handles:") ∷ (codes "doesNotUnderstand:") ∷ (codes "printString") ∷ (43 ∷ []) ∷ (codes "inject:into:") ∷ (codes "show:") ∷ [];
       classes = built_in_class_rows;
       methods = [];
-      bodies = 
-        record { kind = InInitializer; class = Class 1; parameters = 0; captured = []; outer = None; statements = Plain (Send 11 (Constant Transcript) (more_trees (Send 8 (Send 10 (Constant (Object 0)) (more_trees (Constant (Integer (pos 0))) (more_trees (Block 1) no_trees))) no_trees) no_trees)) ∷ [] } ∷
-        record { kind = InBlock; class = Class 1; parameters = 2; captured = false ∷ false ∷ []; outer = (Some 0); statements = Plain (Send 9 (Variable (Scoped 0 0)) (more_trees (Variable (Scoped 0 1)) no_trees)) ∷ [] } ∷ [];
+      bodies =
+          record { kind = InInitializer; class = Class 1; parameters = 0; captured = []; outer = None; statements = Plain (Send 11 (Constant Transcript) (more_trees (Send 8 (Send 10 (Constant (Object 0)) (more_trees (Constant (Integer (pos 0))) (more_trees (Block 1) no_trees))) no_trees) no_trees)) ∷ [] } ∷
+          record { kind = InBlock; class = Class 1; parameters = 2; captured = false ∷ false ∷ []; outer = (Some 0); statements = Plain (Send 9 (Variable (Scoped 0 0)) (more_trees (Variable (Scoped 0 1)) no_trees)) ∷ [] } ∷ [];
       initializers = record { code = 0; self = Nil; target = None } ∷ [];
       literals = (literal_array ((Integer (pos 1)) ∷ (Integer (pos 2)) ∷ (Integer (pos 3)) ∷ []) ∷ []) ++ trouble_literals;
       trouble_place = 1;
@@ -334,8 +334,8 @@ joined =
       names = (codes "value") ∷ (codes "value:") ∷ (codes "value:value:") ∷ (61 ∷ []) ∷ (codes "defaultAction") ∷ (codes "isResumable") ∷ (codes "handles:") ∷ (codes "doesNotUnderstand:") ∷ (codes "printString") ∷ (codes "reverse") ∷ (44 ∷ []) ∷ (codes "show:") ∷ [];
       classes = built_in_class_rows;
       methods = [];
-      bodies = 
-        record { kind = InInitializer; class = Class 1; parameters = 0; captured = []; outer = None; statements = Plain (Send 11 (Constant Transcript) (more_trees (Send 10 (Constant (Object 0)) (more_trees (Send 9 (Constant (Object 1)) no_trees) no_trees)) no_trees)) ∷ [] } ∷ [];
+      bodies =
+          record { kind = InInitializer; class = Class 1; parameters = 0; captured = []; outer = None; statements = Plain (Send 11 (Constant Transcript) (more_trees (Send 10 (Constant (Object 0)) (more_trees (Send 9 (Constant (Object 1)) no_trees) no_trees)) no_trees)) ∷ [] } ∷ [];
       initializers = record { code = 0; self = Nil; target = None } ∷ [];
       literals = (literal_string (codes "ab") ∷ literal_string (codes "cd") ∷ []) ++ trouble_literals;
       trouble_place = 2;
@@ -356,9 +356,9 @@ set_by_equality =
       names = (codes "value") ∷ (codes "value:") ∷ (codes "value:value:") ∷ (61 ∷ []) ∷ (codes "defaultAction") ∷ (codes "isResumable") ∷ (codes "handles:") ∷ (codes "doesNotUnderstand:") ∷ (codes "printString") ∷ (codes "new") ∷ (codes "add:") ∷ (codes "size") ∷ (codes "show:") ∷ [];
       classes = built_in_class_rows ++ record { name = 81 ∷ []; superclass = Some 0; in_file = true; indexed = NoIndexes; slots = 0; class_slots = 0 } ∷ [];
       methods = record { class = 30; side = OfInstance; selector = 3; code = 0 } ∷ [];
-      bodies = 
-        record { kind = InMethod; class = Class 30; parameters = 1; captured = false ∷ []; outer = None; statements = Return (Constant True) ∷ [] } ∷
-        record { kind = InInitializer; class = Class 1; parameters = 0; captured = false ∷ []; outer = None; statements = Plain (Assign (Scoped 0 0) (Send 9 (Constant (Class 14)) no_trees)) ∷ Plain (Cascade (Variable (Scoped 0 0)) (more_messages 10 (more_trees (Send 9 (Constant (Class 30)) no_trees) no_trees) (more_messages 10 (more_trees (Send 9 (Constant (Class 30)) no_trees) no_trees) no_messages))) ∷ Plain (Send 12 (Constant Transcript) (more_trees (Send 8 (Send 11 (Variable (Scoped 0 0)) no_trees) no_trees) no_trees)) ∷ [] } ∷ [];
+      bodies =
+          record { kind = InMethod; class = Class 30; parameters = 1; captured = false ∷ []; outer = None; statements = Return (Constant True) ∷ [] } ∷
+          record { kind = InInitializer; class = Class 1; parameters = 0; captured = false ∷ []; outer = None; statements = Plain (Assign (Scoped 0 0) (Send 9 (Constant (Class 14)) no_trees)) ∷ Plain (Cascade (Variable (Scoped 0 0)) (more_messages 10 (more_trees (Send 9 (Constant (Class 30)) no_trees) no_trees) (more_messages 10 (more_trees (Send 9 (Constant (Class 30)) no_trees) no_trees) no_messages))) ∷ Plain (Send 12 (Constant Transcript) (more_trees (Send 8 (Send 11 (Variable (Scoped 0 0)) no_trees) no_trees) no_trees)) ∷ [] } ∷ [];
       initializers = record { code = 1; self = Nil; target = None } ∷ [];
       literals = trouble_literals;
       trouble_place = 0;
@@ -379,8 +379,8 @@ literal_read_only =
       names = (codes "value") ∷ (codes "value:") ∷ (codes "value:value:") ∷ (61 ∷ []) ∷ (codes "defaultAction") ∷ (codes "isResumable") ∷ (codes "handles:") ∷ (codes "doesNotUnderstand:") ∷ (codes "printString") ∷ (codes "at:put:") ∷ [];
       classes = built_in_class_rows;
       methods = [];
-      bodies = 
-        record { kind = InInitializer; class = Class 1; parameters = 0; captured = []; outer = None; statements = Plain (Send 9 (Constant (Object 0)) (more_trees (Constant (Integer (pos 1))) (more_trees (Constant (Integer (pos 2))) no_trees))) ∷ [] } ∷ [];
+      bodies =
+          record { kind = InInitializer; class = Class 1; parameters = 0; captured = []; outer = None; statements = Plain (Send 9 (Constant (Object 0)) (more_trees (Constant (Integer (pos 1))) (more_trees (Constant (Integer (pos 2))) no_trees))) ∷ [] } ∷ [];
       initializers = record { code = 0; self = Nil; target = None } ∷ [];
       literals = (literal_array ((Integer (pos 1)) ∷ []) ∷ []) ++ trouble_literals;
       trouble_place = 1;
@@ -401,10 +401,10 @@ separator_shrinks =
       names = (codes "value") ∷ (codes "value:") ∷ (codes "value:value:") ∷ (61 ∷ []) ∷ (codes "defaultAction") ∷ (codes "isResumable") ∷ (codes "handles:") ∷ (codes "doesNotUnderstand:") ∷ (codes "printString") ∷ (codes "new") ∷ (codes "add:") ∷ (codes "show:") ∷ (codes "removeLast") ∷ (codes "do:separatedBy:") ∷ [];
       classes = built_in_class_rows;
       methods = [];
-      bodies = 
-        record { kind = InInitializer; class = Class 1; parameters = 0; captured = true ∷ []; outer = None; statements = Plain (Assign (Scoped 0 0) (Send 9 (Constant (Class 13)) no_trees)) ∷ Plain (Cascade (Variable (Scoped 0 0)) (more_messages 10 (more_trees (Constant (Integer (pos 1))) no_trees) (more_messages 10 (more_trees (Constant (Integer (pos 2))) no_trees) (more_messages 10 (more_trees (Constant (Integer (pos 3))) no_trees) no_messages)))) ∷ Plain (Send 13 (Variable (Scoped 0 0)) (more_trees (Block 1) (more_trees (Block 2) no_trees))) ∷ [] } ∷
-        record { kind = InBlock; class = Class 1; parameters = 1; captured = false ∷ []; outer = (Some 0); statements = Plain (Send 11 (Constant Transcript) (more_trees (Send 8 (Variable (Scoped 0 0)) no_trees) no_trees)) ∷ [] } ∷
-        record { kind = InBlock; class = Class 1; parameters = 0; captured = []; outer = (Some 0); statements = Plain (Send 12 (Variable (Scoped 1 0)) no_trees) ∷ Plain (Send 12 (Variable (Scoped 1 0)) no_trees) ∷ [] } ∷ [];
+      bodies =
+          record { kind = InInitializer; class = Class 1; parameters = 0; captured = true ∷ []; outer = None; statements = Plain (Assign (Scoped 0 0) (Send 9 (Constant (Class 13)) no_trees)) ∷ Plain (Cascade (Variable (Scoped 0 0)) (more_messages 10 (more_trees (Constant (Integer (pos 1))) no_trees) (more_messages 10 (more_trees (Constant (Integer (pos 2))) no_trees) (more_messages 10 (more_trees (Constant (Integer (pos 3))) no_trees) no_messages)))) ∷ Plain (Send 13 (Variable (Scoped 0 0)) (more_trees (Block 1) (more_trees (Block 2) no_trees))) ∷ [] } ∷
+          record { kind = InBlock; class = Class 1; parameters = 1; captured = false ∷ []; outer = (Some 0); statements = Plain (Send 11 (Constant Transcript) (more_trees (Send 8 (Variable (Scoped 0 0)) no_trees) no_trees)) ∷ [] } ∷
+          record { kind = InBlock; class = Class 1; parameters = 0; captured = []; outer = (Some 0); statements = Plain (Send 12 (Variable (Scoped 1 0)) no_trees) ∷ Plain (Send 12 (Variable (Scoped 1 0)) no_trees) ∷ [] } ∷ [];
       initializers = record { code = 0; self = Nil; target = None } ∷ [];
       literals = trouble_literals;
       trouble_place = 0;
@@ -425,9 +425,9 @@ reverse_shrinks =
       names = (codes "value") ∷ (codes "value:") ∷ (codes "value:value:") ∷ (61 ∷ []) ∷ (codes "defaultAction") ∷ (codes "isResumable") ∷ (codes "handles:") ∷ (codes "doesNotUnderstand:") ∷ (codes "printString") ∷ (codes "new") ∷ (codes "add:") ∷ (codes "show:") ∷ (codes "removeLast") ∷ (codes "reverseDo:") ∷ [];
       classes = built_in_class_rows;
       methods = [];
-      bodies = 
-        record { kind = InInitializer; class = Class 1; parameters = 0; captured = true ∷ []; outer = None; statements = Plain (Assign (Scoped 0 0) (Send 9 (Constant (Class 13)) no_trees)) ∷ Plain (Cascade (Variable (Scoped 0 0)) (more_messages 10 (more_trees (Constant (Integer (pos 1))) no_trees) (more_messages 10 (more_trees (Constant (Integer (pos 2))) no_trees) (more_messages 10 (more_trees (Constant (Integer (pos 3))) no_trees) (more_messages 10 (more_trees (Constant (Integer (pos 4))) no_trees) no_messages))))) ∷ Plain (Send 13 (Variable (Scoped 0 0)) (more_trees (Block 1) no_trees)) ∷ [] } ∷
-        record { kind = InBlock; class = Class 1; parameters = 1; captured = false ∷ []; outer = (Some 0); statements = Plain (Send 11 (Constant Transcript) (more_trees (Send 8 (Variable (Scoped 0 0)) no_trees) no_trees)) ∷ Plain (Send 12 (Variable (Scoped 1 0)) no_trees) ∷ Plain (Send 12 (Variable (Scoped 1 0)) no_trees) ∷ [] } ∷ [];
+      bodies =
+          record { kind = InInitializer; class = Class 1; parameters = 0; captured = true ∷ []; outer = None; statements = Plain (Assign (Scoped 0 0) (Send 9 (Constant (Class 13)) no_trees)) ∷ Plain (Cascade (Variable (Scoped 0 0)) (more_messages 10 (more_trees (Constant (Integer (pos 1))) no_trees) (more_messages 10 (more_trees (Constant (Integer (pos 2))) no_trees) (more_messages 10 (more_trees (Constant (Integer (pos 3))) no_trees) (more_messages 10 (more_trees (Constant (Integer (pos 4))) no_trees) no_messages))))) ∷ Plain (Send 13 (Variable (Scoped 0 0)) (more_trees (Block 1) no_trees)) ∷ [] } ∷
+          record { kind = InBlock; class = Class 1; parameters = 1; captured = false ∷ []; outer = (Some 0); statements = Plain (Send 11 (Constant Transcript) (more_trees (Send 8 (Variable (Scoped 0 0)) no_trees) no_trees)) ∷ Plain (Send 12 (Variable (Scoped 1 0)) no_trees) ∷ Plain (Send 12 (Variable (Scoped 1 0)) no_trees) ∷ [] } ∷ [];
       initializers = record { code = 0; self = Nil; target = None } ∷ [];
       literals = trouble_literals;
       trouble_place = 0;
@@ -448,9 +448,9 @@ detect_gone =
       names = (codes "value") ∷ (codes "value:") ∷ (codes "value:value:") ∷ (61 ∷ []) ∷ (codes "defaultAction") ∷ (codes "isResumable") ∷ (codes "handles:") ∷ (codes "doesNotUnderstand:") ∷ (codes "printString") ∷ (codes "new") ∷ (codes "add:") ∷ (codes "removeFirst") ∷ (codes "detect:") ∷ (codes "show:") ∷ [];
       classes = built_in_class_rows;
       methods = [];
-      bodies = 
-        record { kind = InInitializer; class = Class 1; parameters = 0; captured = true ∷ []; outer = None; statements = Plain (Assign (Scoped 0 0) (Send 9 (Constant (Class 13)) no_trees)) ∷ Plain (Cascade (Variable (Scoped 0 0)) (more_messages 10 (more_trees (Constant (Integer (pos 1))) no_trees) (more_messages 10 (more_trees (Constant (Integer (pos 2))) no_trees) (more_messages 10 (more_trees (Constant (Integer (pos 3))) no_trees) no_messages)))) ∷ Plain (Send 13 (Constant Transcript) (more_trees (Send 8 (Send 12 (Variable (Scoped 0 0)) (more_trees (Block 1) no_trees)) no_trees) no_trees)) ∷ [] } ∷
-        record { kind = InBlock; class = Class 1; parameters = 1; captured = false ∷ []; outer = (Some 0); statements = Plain (Send 11 (Variable (Scoped 1 0)) no_trees) ∷ Plain (Constant True) ∷ [] } ∷ [];
+      bodies =
+          record { kind = InInitializer; class = Class 1; parameters = 0; captured = true ∷ []; outer = None; statements = Plain (Assign (Scoped 0 0) (Send 9 (Constant (Class 13)) no_trees)) ∷ Plain (Cascade (Variable (Scoped 0 0)) (more_messages 10 (more_trees (Constant (Integer (pos 1))) no_trees) (more_messages 10 (more_trees (Constant (Integer (pos 2))) no_trees) (more_messages 10 (more_trees (Constant (Integer (pos 3))) no_trees) no_messages)))) ∷ Plain (Send 13 (Constant Transcript) (more_trees (Send 8 (Send 12 (Variable (Scoped 0 0)) (more_trees (Block 1) no_trees)) no_trees) no_trees)) ∷ [] } ∷
+          record { kind = InBlock; class = Class 1; parameters = 1; captured = false ∷ []; outer = (Some 0); statements = Plain (Send 11 (Variable (Scoped 1 0)) no_trees) ∷ Plain (Constant True) ∷ [] } ∷ [];
       initializers = record { code = 0; self = Nil; target = None } ∷ [];
       literals = trouble_literals;
       trouble_place = 0;
@@ -471,9 +471,9 @@ select_gone =
       names = (codes "value") ∷ (codes "value:") ∷ (codes "value:value:") ∷ (61 ∷ []) ∷ (codes "defaultAction") ∷ (codes "isResumable") ∷ (codes "handles:") ∷ (codes "doesNotUnderstand:") ∷ (codes "printString") ∷ (codes "new") ∷ (codes "add:") ∷ (codes "removeFirst") ∷ (codes "select:") ∷ (codes "last") ∷ (codes "show:") ∷ [];
       classes = built_in_class_rows;
       methods = [];
-      bodies = 
-        record { kind = InInitializer; class = Class 1; parameters = 0; captured = true ∷ []; outer = None; statements = Plain (Assign (Scoped 0 0) (Send 9 (Constant (Class 13)) no_trees)) ∷ Plain (Cascade (Variable (Scoped 0 0)) (more_messages 10 (more_trees (Constant (Integer (pos 1))) no_trees) (more_messages 10 (more_trees (Constant (Integer (pos 2))) no_trees) (more_messages 10 (more_trees (Constant (Integer (pos 3))) no_trees) no_messages)))) ∷ Plain (Send 14 (Constant Transcript) (more_trees (Send 8 (Send 13 (Send 12 (Variable (Scoped 0 0)) (more_trees (Block 1) no_trees)) no_trees) no_trees) no_trees)) ∷ [] } ∷
-        record { kind = InBlock; class = Class 1; parameters = 1; captured = false ∷ []; outer = (Some 0); statements = Plain (Send 11 (Variable (Scoped 1 0)) no_trees) ∷ Plain (Constant True) ∷ [] } ∷ [];
+      bodies =
+          record { kind = InInitializer; class = Class 1; parameters = 0; captured = true ∷ []; outer = None; statements = Plain (Assign (Scoped 0 0) (Send 9 (Constant (Class 13)) no_trees)) ∷ Plain (Cascade (Variable (Scoped 0 0)) (more_messages 10 (more_trees (Constant (Integer (pos 1))) no_trees) (more_messages 10 (more_trees (Constant (Integer (pos 2))) no_trees) (more_messages 10 (more_trees (Constant (Integer (pos 3))) no_trees) no_messages)))) ∷ Plain (Send 14 (Constant Transcript) (more_trees (Send 8 (Send 13 (Send 12 (Variable (Scoped 0 0)) (more_trees (Block 1) no_trees)) no_trees) no_trees) no_trees)) ∷ [] } ∷
+          record { kind = InBlock; class = Class 1; parameters = 1; captured = false ∷ []; outer = (Some 0); statements = Plain (Send 11 (Variable (Scoped 1 0)) no_trees) ∷ Plain (Constant True) ∷ [] } ∷ [];
       initializers = record { code = 0; self = Nil; target = None } ∷ [];
       literals = trouble_literals;
       trouble_place = 0;
@@ -494,9 +494,9 @@ search_rereads =
       names = (codes "value") ∷ (codes "value:") ∷ (codes "value:value:") ∷ (61 ∷ []) ∷ (codes "defaultAction") ∷ (codes "isResumable") ∷ (codes "handles:") ∷ (codes "doesNotUnderstand:") ∷ (codes "printString") ∷ (codes "removeFirst") ∷ (codes "new") ∷ (codes "add:") ∷ (codes "show:") ∷ (codes "remove:") ∷ (codes "size") ∷ [];
       classes = built_in_class_rows ++ record { name = 81 ∷ []; superclass = Some 0; in_file = true; indexed = NoIndexes; slots = 0; class_slots = 0 } ∷ [];
       methods = record { class = 30; side = OfInstance; selector = 3; code = 0 } ∷ [];
-      bodies = 
-        record { kind = InMethod; class = Class 30; parameters = 1; captured = false ∷ []; outer = None; statements = Plain (Send 9 (Variable (Shared 0)) no_trees) ∷ Return (Constant True) ∷ [] } ∷
-        record { kind = InInitializer; class = Class 1; parameters = 0; captured = []; outer = None; statements = Plain (Assign (Shared 0) (Send 10 (Constant (Class 13)) no_trees)) ∷ Plain (Cascade (Variable (Shared 0)) (more_messages 11 (more_trees (Constant (Integer (pos 5))) no_trees) (more_messages 11 (more_trees (Constant (Integer (pos 6))) no_trees) (more_messages 11 (more_trees (Constant (Integer (pos 7))) no_trees) no_messages)))) ∷ Plain (Cascade (Constant Transcript) (more_messages 12 (more_trees (Send 8 (Send 13 (Variable (Shared 0)) (more_trees (Send 10 (Constant (Class 30)) no_trees) no_trees)) no_trees) no_trees) (more_messages 12 (more_trees (Send 8 (Send 14 (Variable (Shared 0)) no_trees) no_trees) no_trees) no_messages))) ∷ [] } ∷ [];
+      bodies =
+          record { kind = InMethod; class = Class 30; parameters = 1; captured = false ∷ []; outer = None; statements = Plain (Send 9 (Variable (Shared 0)) no_trees) ∷ Return (Constant True) ∷ [] } ∷
+          record { kind = InInitializer; class = Class 1; parameters = 0; captured = []; outer = None; statements = Plain (Assign (Shared 0) (Send 10 (Constant (Class 13)) no_trees)) ∷ Plain (Cascade (Variable (Shared 0)) (more_messages 11 (more_trees (Constant (Integer (pos 5))) no_trees) (more_messages 11 (more_trees (Constant (Integer (pos 6))) no_trees) (more_messages 11 (more_trees (Constant (Integer (pos 7))) no_trees) no_messages)))) ∷ Plain (Cascade (Constant Transcript) (more_messages 12 (more_trees (Send 8 (Send 13 (Variable (Shared 0)) (more_trees (Send 10 (Constant (Class 30)) no_trees) no_trees)) no_trees) no_trees) (more_messages 12 (more_trees (Send 8 (Send 14 (Variable (Shared 0)) no_trees) no_trees) no_trees) no_messages))) ∷ [] } ∷ [];
       initializers = record { code = 1; self = Nil; target = None } ∷ [];
       literals = trouble_literals;
       trouble_place = 0;
@@ -517,9 +517,9 @@ if_absent_put_twice =
       names = (codes "value") ∷ (codes "value:") ∷ (codes "value:value:") ∷ (61 ∷ []) ∷ (codes "defaultAction") ∷ (codes "isResumable") ∷ (codes "handles:") ∷ (codes "doesNotUnderstand:") ∷ (codes "printString") ∷ (codes "new") ∷ (codes "at:put:") ∷ (codes "at:ifAbsentPut:") ∷ (codes "show:") ∷ (codes "size") ∷ (codes "at:") ∷ [];
       classes = built_in_class_rows;
       methods = [];
-      bodies = 
-        record { kind = InInitializer; class = Class 1; parameters = 0; captured = true ∷ []; outer = None; statements = Plain (Assign (Scoped 0 0) (Send 9 (Constant (Class 15)) no_trees)) ∷ Plain (Send 11 (Variable (Scoped 0 0)) (more_trees (Constant (Integer (pos 1))) (more_trees (Block 1) no_trees))) ∷ Plain (Cascade (Constant Transcript) (more_messages 12 (more_trees (Send 8 (Send 13 (Variable (Scoped 0 0)) no_trees) no_trees) no_trees) (more_messages 12 (more_trees (Send 8 (Send 14 (Variable (Scoped 0 0)) (more_trees (Constant (Integer (pos 1))) no_trees)) no_trees) no_trees) no_messages))) ∷ [] } ∷
-        record { kind = InBlock; class = Class 1; parameters = 0; captured = []; outer = (Some 0); statements = Plain (Send 10 (Variable (Scoped 1 0)) (more_trees (Constant (Integer (pos 1))) (more_trees (Constant (Integer (pos 2))) no_trees))) ∷ Plain (Constant (Integer (pos 3))) ∷ [] } ∷ [];
+      bodies =
+          record { kind = InInitializer; class = Class 1; parameters = 0; captured = true ∷ []; outer = None; statements = Plain (Assign (Scoped 0 0) (Send 9 (Constant (Class 15)) no_trees)) ∷ Plain (Send 11 (Variable (Scoped 0 0)) (more_trees (Constant (Integer (pos 1))) (more_trees (Block 1) no_trees))) ∷ Plain (Cascade (Constant Transcript) (more_messages 12 (more_trees (Send 8 (Send 13 (Variable (Scoped 0 0)) no_trees) no_trees) no_trees) (more_messages 12 (more_trees (Send 8 (Send 14 (Variable (Scoped 0 0)) (more_trees (Constant (Integer (pos 1))) no_trees)) no_trees) no_trees) no_messages))) ∷ [] } ∷
+          record { kind = InBlock; class = Class 1; parameters = 0; captured = []; outer = (Some 0); statements = Plain (Send 10 (Variable (Scoped 1 0)) (more_trees (Constant (Integer (pos 1))) (more_trees (Constant (Integer (pos 2))) no_trees))) ∷ Plain (Constant (Integer (pos 3))) ∷ [] } ∷ [];
       initializers = record { code = 0; self = Nil; target = None } ∷ [];
       literals = trouble_literals;
       trouble_place = 0;
@@ -540,9 +540,9 @@ equal_shorter =
       names = (codes "value") ∷ (codes "value:") ∷ (codes "value:value:") ∷ (61 ∷ []) ∷ (codes "defaultAction") ∷ (codes "isResumable") ∷ (codes "handles:") ∷ (codes "doesNotUnderstand:") ∷ (codes "printString") ∷ (codes "removeLast") ∷ (codes "new") ∷ (codes "add:") ∷ (codes "show:") ∷ [];
       classes = built_in_class_rows ++ record { name = 81 ∷ []; superclass = Some 0; in_file = true; indexed = NoIndexes; slots = 0; class_slots = 0 } ∷ [];
       methods = record { class = 30; side = OfInstance; selector = 3; code = 0 } ∷ [];
-      bodies = 
-        record { kind = InMethod; class = Class 30; parameters = 1; captured = false ∷ []; outer = None; statements = Plain (Send 9 (Variable (Shared 0)) no_trees) ∷ Return (Constant True) ∷ [] } ∷
-        record { kind = InInitializer; class = Class 1; parameters = 0; captured = false ∷ []; outer = None; statements = Plain (Assign (Shared 0) (Send 10 (Constant (Class 13)) no_trees)) ∷ Plain (Cascade (Variable (Shared 0)) (more_messages 11 (more_trees (Constant (Integer (pos 1))) no_trees) (more_messages 11 (more_trees (Constant (Integer (pos 2))) no_trees) no_messages))) ∷ Plain (Assign (Scoped 0 0) (Send 10 (Constant (Class 13)) no_trees)) ∷ Plain (Cascade (Variable (Scoped 0 0)) (more_messages 11 (more_trees (Send 10 (Constant (Class 30)) no_trees) no_trees) (more_messages 11 (more_trees (Send 10 (Constant (Class 30)) no_trees) no_trees) no_messages))) ∷ Plain (Send 12 (Constant Transcript) (more_trees (Send 8 (Send 3 (Variable (Scoped 0 0)) (more_trees (Variable (Shared 0)) no_trees)) no_trees) no_trees)) ∷ [] } ∷ [];
+      bodies =
+          record { kind = InMethod; class = Class 30; parameters = 1; captured = false ∷ []; outer = None; statements = Plain (Send 9 (Variable (Shared 0)) no_trees) ∷ Return (Constant True) ∷ [] } ∷
+          record { kind = InInitializer; class = Class 1; parameters = 0; captured = false ∷ []; outer = None; statements = Plain (Assign (Shared 0) (Send 10 (Constant (Class 13)) no_trees)) ∷ Plain (Cascade (Variable (Shared 0)) (more_messages 11 (more_trees (Constant (Integer (pos 1))) no_trees) (more_messages 11 (more_trees (Constant (Integer (pos 2))) no_trees) no_messages))) ∷ Plain (Assign (Scoped 0 0) (Send 10 (Constant (Class 13)) no_trees)) ∷ Plain (Cascade (Variable (Scoped 0 0)) (more_messages 11 (more_trees (Send 10 (Constant (Class 30)) no_trees) no_trees) (more_messages 11 (more_trees (Send 10 (Constant (Class 30)) no_trees) no_trees) no_messages))) ∷ Plain (Send 12 (Constant Transcript) (more_trees (Send 8 (Send 3 (Variable (Scoped 0 0)) (more_trees (Variable (Shared 0)) no_trees)) no_trees) no_trees)) ∷ [] } ∷ [];
       initializers = record { code = 1; self = Nil; target = None } ∷ [];
       literals = trouble_literals;
       trouble_place = 0;
@@ -563,11 +563,11 @@ cascade_super =
       names = (codes "value") ∷ (codes "value:") ∷ (codes "value:value:") ∷ (61 ∷ []) ∷ (codes "defaultAction") ∷ (codes "isResumable") ∷ (codes "handles:") ∷ (codes "doesNotUnderstand:") ∷ (codes "printString") ∷ (codes "show:") ∷ (109 ∷ []) ∷ (codes "yourself") ∷ (110 ∷ []) ∷ (codes "new") ∷ [];
       classes = built_in_class_rows ++ record { name = 65 ∷ []; superclass = Some 0; in_file = true; indexed = NoIndexes; slots = 0; class_slots = 0 } ∷ record { name = 66 ∷ []; superclass = Some 30; in_file = true; indexed = NoIndexes; slots = 0; class_slots = 0 } ∷ [];
       methods = record { class = 30; side = OfInstance; selector = 10; code = 0 } ∷ record { class = 31; side = OfInstance; selector = 10; code = 1 } ∷ record { class = 31; side = OfInstance; selector = 12; code = 2 } ∷ [];
-      bodies = 
-        record { kind = InMethod; class = Class 30; parameters = 0; captured = []; outer = None; statements = Plain (Send 9 (Constant Transcript) (more_trees (Constant (Object 0)) no_trees)) ∷ [] } ∷
-        record { kind = InMethod; class = Class 31; parameters = 0; captured = []; outer = None; statements = Plain (Send 9 (Constant Transcript) (more_trees (Constant (Object 1)) no_trees)) ∷ [] } ∷
-        record { kind = InMethod; class = Class 31; parameters = 0; captured = []; outer = None; statements = Plain (SuperCascade (more_messages 10 no_trees (more_messages 10 no_trees (more_messages 11 no_trees no_messages)))) ∷ [] } ∷
-        record { kind = InInitializer; class = Class 1; parameters = 0; captured = []; outer = None; statements = Plain (Send 12 (Send 13 (Constant (Class 31)) no_trees) no_trees) ∷ [] } ∷ [];
+      bodies =
+          record { kind = InMethod; class = Class 30; parameters = 0; captured = []; outer = None; statements = Plain (Send 9 (Constant Transcript) (more_trees (Constant (Object 0)) no_trees)) ∷ [] } ∷
+          record { kind = InMethod; class = Class 31; parameters = 0; captured = []; outer = None; statements = Plain (Send 9 (Constant Transcript) (more_trees (Constant (Object 1)) no_trees)) ∷ [] } ∷
+          record { kind = InMethod; class = Class 31; parameters = 0; captured = []; outer = None; statements = Plain (SuperCascade (more_messages 10 no_trees (more_messages 10 no_trees (more_messages 11 no_trees no_messages)))) ∷ [] } ∷
+          record { kind = InInitializer; class = Class 1; parameters = 0; captured = []; outer = None; statements = Plain (Send 12 (Send 13 (Constant (Class 31)) no_trees) no_trees) ∷ [] } ∷ [];
       initializers = record { code = 3; self = Nil; target = None } ∷ [];
       literals = (literal_string (65 ∷ []) ∷ literal_string (66 ∷ []) ∷ []) ++ trouble_literals;
       trouble_place = 2;
@@ -588,10 +588,10 @@ captured_parameter =
       names = (codes "value") ∷ (codes "value:") ∷ (codes "value:value:") ∷ (61 ∷ []) ∷ (codes "defaultAction") ∷ (codes "isResumable") ∷ (codes "handles:") ∷ (codes "doesNotUnderstand:") ∷ (codes "printString") ∷ (43 ∷ []) ∷ (codes "show:") ∷ [];
       classes = built_in_class_rows;
       methods = [];
-      bodies = 
-        record { kind = InInitializer; class = Class 1; parameters = 0; captured = []; outer = None; statements = Plain (Send 10 (Constant Transcript) (more_trees (Send 8 (Send 2 (Block 1) (more_trees (Constant (Integer (pos 1))) (more_trees (Constant (Integer (pos 2))) no_trees))) no_trees) no_trees)) ∷ [] } ∷
-        record { kind = InBlock; class = Class 1; parameters = 2; captured = true ∷ false ∷ []; outer = (Some 0); statements = Plain (Send 1 (Block 2) (more_trees (Variable (Scoped 0 1)) no_trees)) ∷ [] } ∷
-        record { kind = InBlock; class = Class 1; parameters = 1; captured = false ∷ []; outer = (Some 1); statements = Plain (Send 9 (Variable (Scoped 1 0)) (more_trees (Variable (Scoped 0 0)) no_trees)) ∷ [] } ∷ [];
+      bodies =
+          record { kind = InInitializer; class = Class 1; parameters = 0; captured = []; outer = None; statements = Plain (Send 10 (Constant Transcript) (more_trees (Send 8 (Send 2 (Block 1) (more_trees (Constant (Integer (pos 1))) (more_trees (Constant (Integer (pos 2))) no_trees))) no_trees) no_trees)) ∷ [] } ∷
+          record { kind = InBlock; class = Class 1; parameters = 2; captured = true ∷ false ∷ []; outer = (Some 0); statements = Plain (Send 1 (Block 2) (more_trees (Variable (Scoped 0 1)) no_trees)) ∷ [] } ∷
+          record { kind = InBlock; class = Class 1; parameters = 1; captured = false ∷ []; outer = (Some 1); statements = Plain (Send 9 (Variable (Scoped 1 0)) (more_trees (Variable (Scoped 0 0)) no_trees)) ∷ [] } ∷ [];
       initializers = record { code = 0; self = Nil; target = None } ∷ [];
       literals = trouble_literals;
       trouble_place = 0;
@@ -612,10 +612,10 @@ charges_of_failed_send =
       names = (codes "value") ∷ (codes "value:") ∷ (codes "value:value:") ∷ (61 ∷ []) ∷ (codes "defaultAction") ∷ (codes "isResumable") ∷ (codes "handles:") ∷ (codes "doesNotUnderstand:") ∷ (codes "printString") ∷ (codes "foo:") ∷ (codes "message") ∷ (codes "arguments") ∷ (codes "size") ∷ (codes "on:do:") ∷ (codes "show:") ∷ [];
       classes = built_in_class_rows;
       methods = [];
-      bodies = 
-        record { kind = InInitializer; class = Class 1; parameters = 0; captured = []; outer = None; statements = Plain (Send 14 (Constant Transcript) (more_trees (Send 8 (Send 13 (Block 1) (more_trees (Constant (Class 27)) (more_trees (Block 2) no_trees))) no_trees) no_trees)) ∷ [] } ∷
-        record { kind = InBlock; class = Class 1; parameters = 0; captured = []; outer = (Some 0); statements = Plain (Send 9 (Constant (Integer (pos 3))) (more_trees (Constant (Integer (pos 4))) no_trees)) ∷ Plain (Constant (Integer (pos 1))) ∷ [] } ∷
-        record { kind = InBlock; class = Class 1; parameters = 1; captured = false ∷ []; outer = (Some 0); statements = Plain (Send 12 (Send 11 (Send 10 (Variable (Scoped 0 0)) no_trees) no_trees) no_trees) ∷ [] } ∷ [];
+      bodies =
+          record { kind = InInitializer; class = Class 1; parameters = 0; captured = []; outer = None; statements = Plain (Send 14 (Constant Transcript) (more_trees (Send 8 (Send 13 (Block 1) (more_trees (Constant (Class 27)) (more_trees (Block 2) no_trees))) no_trees) no_trees)) ∷ [] } ∷
+          record { kind = InBlock; class = Class 1; parameters = 0; captured = []; outer = (Some 0); statements = Plain (Send 9 (Constant (Integer (pos 3))) (more_trees (Constant (Integer (pos 4))) no_trees)) ∷ Plain (Constant (Integer (pos 1))) ∷ [] } ∷
+          record { kind = InBlock; class = Class 1; parameters = 1; captured = false ∷ []; outer = (Some 0); statements = Plain (Send 12 (Send 11 (Send 10 (Variable (Scoped 0 0)) no_trees) no_trees) no_trees) ∷ [] } ∷ [];
       initializers = record { code = 0; self = Nil; target = None } ∷ [];
       literals = trouble_literals;
       trouble_place = 0;

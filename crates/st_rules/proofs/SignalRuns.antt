@@ -1,13 +1,12 @@
 -- Runs with turns, waits and searches at their corners. Each is computed by the rules and by both machines.
-use Rattle.std.proofs.Common.{◌≡◌, ℕ, List, [], ◌∷◌, ◌++◌, refl, true, false, Some, None, pos, negsuc}
+use Rattle.std.proofs.Common.{[], ◌∷◌, ◌++◌, refl, true, false, Some, None, pos}
 use Rattle.std.specs.Prelude.{codes}
-use Rattle.object_heap.specs.declared.value.Value.TheVariants.{Nil, True, False, Integer, Character, Symbol, Class, Meta, Transcript, Object}
-use Rattle.st_code.specs.Program.{Program, Scoped, Slot, ClassSlot, Shared, Tree, Constant, Self, Variable, Assign, Block, Send, SuperSend, Cascade, SuperCascade, Trees, no_trees, more_trees, Messages, no_messages, more_messages, Plain, Return, InMethod, InBlock, InInitializer, OfInstance, OfClass, NoIndexes, ByObject, ByByte}
+use Rattle.object_heap.specs.declared.value.Value.TheVariants.{Nil, True, False, Integer, Symbol, Class, Transcript, Object}
+use Rattle.st_code.specs.Program.{Program, Scoped, Shared, Constant, Self, Variable, Assign, Block, Send, Cascade, no_trees, more_trees, no_messages, more_messages, Plain, Return, InMethod, InBlock, InInitializer, OfInstance, NoIndexes}
 use Rattle.st_rules.specs.Events.{Event}
-use Rattle.st_rules.specs.State.{StepLimit, DepthLimit, CellLimit, IntegerLimit}
 use Rattle.st_rules.specs.BuiltIns.{built_in_class_rows}
-use Rattle.st_rules.specs.Literals.{literal_string, literal_array, trouble_literals}
-use Rattle.st_rules.proofs.Computing.{Reports, computing, WasDone, WasUnhandled, WasAtLimit}
+use Rattle.st_rules.specs.Literals.{literal_string, trouble_literals}
+use Rattle.st_rules.proofs.Computing.{Reports, computing, WasDone}
 
 -- Global initializer!Transcript show: ([[Error signal] on: Error do: [:e | e resume: 1]] on: Error do: [:e | e messageText])!
 abbrev resume_not_resumable_depth : Program
@@ -16,12 +15,12 @@ resume_not_resumable_depth =
       names = (codes "value") ∷ (codes "value:") ∷ (codes "value:value:") ∷ (61 ∷ []) ∷ (codes "defaultAction") ∷ (codes "isResumable") ∷ (codes "handles:") ∷ (codes "doesNotUnderstand:") ∷ (codes "printString") ∷ (codes "signal") ∷ (codes "resume:") ∷ (codes "on:do:") ∷ (codes "messageText") ∷ (codes "show:") ∷ [];
       classes = built_in_class_rows;
       methods = [];
-      bodies = 
-        record { kind = InInitializer; class = Class 1; parameters = 0; captured = []; outer = None; statements = Plain (Send 13 (Constant Transcript) (more_trees (Send 11 (Block 1) (more_trees (Constant (Class 24)) (more_trees (Block 4) no_trees))) no_trees)) ∷ [] } ∷
-        record { kind = InBlock; class = Class 1; parameters = 0; captured = []; outer = (Some 0); statements = Plain (Send 11 (Block 2) (more_trees (Constant (Class 24)) (more_trees (Block 3) no_trees))) ∷ [] } ∷
-        record { kind = InBlock; class = Class 1; parameters = 0; captured = []; outer = (Some 1); statements = Plain (Send 9 (Constant (Class 24)) no_trees) ∷ [] } ∷
-        record { kind = InBlock; class = Class 1; parameters = 1; captured = false ∷ []; outer = (Some 1); statements = Plain (Send 10 (Variable (Scoped 0 0)) (more_trees (Constant (Integer (pos 1))) no_trees)) ∷ [] } ∷
-        record { kind = InBlock; class = Class 1; parameters = 1; captured = false ∷ []; outer = (Some 0); statements = Plain (Send 12 (Variable (Scoped 0 0)) no_trees) ∷ [] } ∷ [];
+      bodies =
+          record { kind = InInitializer; class = Class 1; parameters = 0; captured = []; outer = None; statements = Plain (Send 13 (Constant Transcript) (more_trees (Send 11 (Block 1) (more_trees (Constant (Class 24)) (more_trees (Block 4) no_trees))) no_trees)) ∷ [] } ∷
+          record { kind = InBlock; class = Class 1; parameters = 0; captured = []; outer = (Some 0); statements = Plain (Send 11 (Block 2) (more_trees (Constant (Class 24)) (more_trees (Block 3) no_trees))) ∷ [] } ∷
+          record { kind = InBlock; class = Class 1; parameters = 0; captured = []; outer = (Some 1); statements = Plain (Send 9 (Constant (Class 24)) no_trees) ∷ [] } ∷
+          record { kind = InBlock; class = Class 1; parameters = 1; captured = false ∷ []; outer = (Some 1); statements = Plain (Send 10 (Variable (Scoped 0 0)) (more_trees (Constant (Integer (pos 1))) no_trees)) ∷ [] } ∷
+          record { kind = InBlock; class = Class 1; parameters = 1; captured = false ∷ []; outer = (Some 0); statements = Plain (Send 12 (Variable (Scoped 0 0)) no_trees) ∷ [] } ∷ [];
       initializers = record { code = 0; self = Nil; target = None } ∷ [];
       literals = trouble_literals;
       trouble_place = 0;
@@ -42,14 +41,14 @@ resume_error_answers =
       names = (codes "value") ∷ (codes "value:") ∷ (codes "value:value:") ∷ (61 ∷ []) ∷ (codes "defaultAction") ∷ (codes "isResumable") ∷ (codes "handles:") ∷ (codes "doesNotUnderstand:") ∷ (codes "printString") ∷ (codes "signal") ∷ (codes "resume:") ∷ (codes "==") ∷ (codes "on:do:") ∷ (codes "show:") ∷ [];
       classes = built_in_class_rows ++ record { name = 70 ∷ []; superclass = Some 24; in_file = true; indexed = NoIndexes; slots = 1; class_slots = 0 } ∷ [];
       methods = record { class = 24; side = OfInstance; selector = 5; code = 0 } ∷ record { class = 30; side = OfInstance; selector = 5; code = 1 } ∷ [];
-      bodies = 
-        record { kind = InMethod; class = Class 24; parameters = 0; captured = []; outer = None; statements = Return (Constant True) ∷ [] } ∷
-        record { kind = InMethod; class = Class 30; parameters = 0; captured = []; outer = None; statements = Return (Constant False) ∷ [] } ∷
-        record { kind = InInitializer; class = Class 1; parameters = 0; captured = []; outer = None; statements = Plain (Send 13 (Constant Transcript) (more_trees (Send 8 (Send 12 (Block 3) (more_trees (Constant (Class 24)) (more_trees (Block 6) no_trees))) no_trees) no_trees)) ∷ [] } ∷
-        record { kind = InBlock; class = Class 1; parameters = 0; captured = []; outer = (Some 2); statements = Plain (Send 12 (Block 4) (more_trees (Constant (Class 30)) (more_trees (Block 5) no_trees))) ∷ [] } ∷
-        record { kind = InBlock; class = Class 1; parameters = 0; captured = []; outer = (Some 3); statements = Plain (Send 9 (Constant (Class 30)) no_trees) ∷ Plain (Constant (Integer (pos 1))) ∷ [] } ∷
-        record { kind = InBlock; class = Class 1; parameters = 1; captured = false ∷ []; outer = (Some 3); statements = Plain (Send 11 (Send 10 (Variable (Scoped 0 0)) (more_trees (Constant (Integer (pos 1))) no_trees)) (more_trees (Constant True) no_trees)) ∷ [] } ∷
-        record { kind = InBlock; class = Class 1; parameters = 1; captured = false ∷ []; outer = (Some 2); statements = Plain (Send 10 (Variable (Scoped 0 0)) (more_trees (Constant True) no_trees)) ∷ [] } ∷ [];
+      bodies =
+          record { kind = InMethod; class = Class 24; parameters = 0; captured = []; outer = None; statements = Return (Constant True) ∷ [] } ∷
+          record { kind = InMethod; class = Class 30; parameters = 0; captured = []; outer = None; statements = Return (Constant False) ∷ [] } ∷
+          record { kind = InInitializer; class = Class 1; parameters = 0; captured = []; outer = None; statements = Plain (Send 13 (Constant Transcript) (more_trees (Send 8 (Send 12 (Block 3) (more_trees (Constant (Class 24)) (more_trees (Block 6) no_trees))) no_trees) no_trees)) ∷ [] } ∷
+          record { kind = InBlock; class = Class 1; parameters = 0; captured = []; outer = (Some 2); statements = Plain (Send 12 (Block 4) (more_trees (Constant (Class 30)) (more_trees (Block 5) no_trees))) ∷ [] } ∷
+          record { kind = InBlock; class = Class 1; parameters = 0; captured = []; outer = (Some 3); statements = Plain (Send 9 (Constant (Class 30)) no_trees) ∷ Plain (Constant (Integer (pos 1))) ∷ [] } ∷
+          record { kind = InBlock; class = Class 1; parameters = 1; captured = false ∷ []; outer = (Some 3); statements = Plain (Send 11 (Send 10 (Variable (Scoped 0 0)) (more_trees (Constant (Integer (pos 1))) no_trees)) (more_trees (Constant True) no_trees)) ∷ [] } ∷
+          record { kind = InBlock; class = Class 1; parameters = 1; captured = false ∷ []; outer = (Some 2); statements = Plain (Send 10 (Variable (Scoped 0 0)) (more_trees (Constant True) no_trees)) ∷ [] } ∷ [];
       initializers = record { code = 2; self = Nil; target = None } ∷ [];
       literals = trouble_literals;
       trouble_place = 0;
@@ -70,12 +69,12 @@ pass_default_unwinds =
       names = (codes "value") ∷ (codes "value:") ∷ (codes "value:value:") ∷ (61 ∷ []) ∷ (codes "defaultAction") ∷ (codes "isResumable") ∷ (codes "handles:") ∷ (codes "doesNotUnderstand:") ∷ (codes "printString") ∷ (codes "signal") ∷ (43 ∷ []) ∷ (codes "pass") ∷ (codes "show:") ∷ (codes "on:do:") ∷ [];
       classes = built_in_class_rows ++ record { name = 69 ∷ []; superclass = Some 23; in_file = true; indexed = NoIndexes; slots = 1; class_slots = 0 } ∷ [];
       methods = record { class = 30; side = OfInstance; selector = 4; code = 0 } ∷ record { class = 30; side = OfInstance; selector = 5; code = 1 } ∷ [];
-      bodies = 
-        record { kind = InMethod; class = Class 30; parameters = 0; captured = []; outer = None; statements = Return (Constant (Integer (pos 5))) ∷ [] } ∷
-        record { kind = InMethod; class = Class 30; parameters = 0; captured = []; outer = None; statements = Return (Constant True) ∷ [] } ∷
-        record { kind = InInitializer; class = Class 1; parameters = 0; captured = []; outer = None; statements = Plain (Send 12 (Constant Transcript) (more_trees (Send 8 (Send 13 (Block 3) (more_trees (Constant (Class 30)) (more_trees (Block 4) no_trees))) no_trees) no_trees)) ∷ [] } ∷
-        record { kind = InBlock; class = Class 1; parameters = 0; captured = []; outer = (Some 2); statements = Plain (Send 10 (Send 9 (Constant (Class 30)) no_trees) (more_trees (Constant (Integer (pos 1))) no_trees)) ∷ [] } ∷
-        record { kind = InBlock; class = Class 1; parameters = 1; captured = false ∷ []; outer = (Some 2); statements = Plain (Send 11 (Variable (Scoped 0 0)) no_trees) ∷ Plain (Send 12 (Constant Transcript) (more_trees (Constant (Object 0)) no_trees)) ∷ Plain (Constant (Integer (pos 3))) ∷ [] } ∷ [];
+      bodies =
+          record { kind = InMethod; class = Class 30; parameters = 0; captured = []; outer = None; statements = Return (Constant (Integer (pos 5))) ∷ [] } ∷
+          record { kind = InMethod; class = Class 30; parameters = 0; captured = []; outer = None; statements = Return (Constant True) ∷ [] } ∷
+          record { kind = InInitializer; class = Class 1; parameters = 0; captured = []; outer = None; statements = Plain (Send 12 (Constant Transcript) (more_trees (Send 8 (Send 13 (Block 3) (more_trees (Constant (Class 30)) (more_trees (Block 4) no_trees))) no_trees) no_trees)) ∷ [] } ∷
+          record { kind = InBlock; class = Class 1; parameters = 0; captured = []; outer = (Some 2); statements = Plain (Send 10 (Send 9 (Constant (Class 30)) no_trees) (more_trees (Constant (Integer (pos 1))) no_trees)) ∷ [] } ∷
+          record { kind = InBlock; class = Class 1; parameters = 1; captured = false ∷ []; outer = (Some 2); statements = Plain (Send 11 (Variable (Scoped 0 0)) no_trees) ∷ Plain (Send 12 (Constant Transcript) (more_trees (Constant (Object 0)) no_trees)) ∷ Plain (Constant (Integer (pos 3))) ∷ [] } ∷ [];
       initializers = record { code = 2; self = Nil; target = None } ∷ [];
       literals = (literal_string (codes "no") ∷ []) ++ trouble_literals;
       trouble_place = 1;
@@ -96,12 +95,12 @@ outer_default_returns =
       names = (codes "value") ∷ (codes "value:") ∷ (codes "value:value:") ∷ (61 ∷ []) ∷ (codes "defaultAction") ∷ (codes "isResumable") ∷ (codes "handles:") ∷ (codes "doesNotUnderstand:") ∷ (codes "printString") ∷ (codes "signal") ∷ (43 ∷ []) ∷ (codes "outer") ∷ (codes "return:") ∷ (codes "on:do:") ∷ (codes "show:") ∷ [];
       classes = built_in_class_rows ++ record { name = 69 ∷ []; superclass = Some 23; in_file = true; indexed = NoIndexes; slots = 1; class_slots = 0 } ∷ [];
       methods = record { class = 30; side = OfInstance; selector = 4; code = 0 } ∷ record { class = 30; side = OfInstance; selector = 5; code = 1 } ∷ [];
-      bodies = 
-        record { kind = InMethod; class = Class 30; parameters = 0; captured = []; outer = None; statements = Return (Constant (Integer (pos 5))) ∷ [] } ∷
-        record { kind = InMethod; class = Class 30; parameters = 0; captured = []; outer = None; statements = Return (Constant True) ∷ [] } ∷
-        record { kind = InInitializer; class = Class 1; parameters = 0; captured = []; outer = None; statements = Plain (Send 14 (Constant Transcript) (more_trees (Send 8 (Send 13 (Block 3) (more_trees (Constant (Class 30)) (more_trees (Block 4) no_trees))) no_trees) no_trees)) ∷ [] } ∷
-        record { kind = InBlock; class = Class 1; parameters = 0; captured = []; outer = (Some 2); statements = Plain (Send 10 (Send 9 (Constant (Class 30)) no_trees) (more_trees (Constant (Integer (pos 1))) no_trees)) ∷ [] } ∷
-        record { kind = InBlock; class = Class 1; parameters = 1; captured = false ∷ []; outer = (Some 2); statements = Plain (Send 12 (Variable (Scoped 0 0)) (more_trees (Send 10 (Send 11 (Variable (Scoped 0 0)) no_trees) (more_trees (Constant (Integer (pos 20))) no_trees)) no_trees)) ∷ [] } ∷ [];
+      bodies =
+          record { kind = InMethod; class = Class 30; parameters = 0; captured = []; outer = None; statements = Return (Constant (Integer (pos 5))) ∷ [] } ∷
+          record { kind = InMethod; class = Class 30; parameters = 0; captured = []; outer = None; statements = Return (Constant True) ∷ [] } ∷
+          record { kind = InInitializer; class = Class 1; parameters = 0; captured = []; outer = None; statements = Plain (Send 14 (Constant Transcript) (more_trees (Send 8 (Send 13 (Block 3) (more_trees (Constant (Class 30)) (more_trees (Block 4) no_trees))) no_trees) no_trees)) ∷ [] } ∷
+          record { kind = InBlock; class = Class 1; parameters = 0; captured = []; outer = (Some 2); statements = Plain (Send 10 (Send 9 (Constant (Class 30)) no_trees) (more_trees (Constant (Integer (pos 1))) no_trees)) ∷ [] } ∷
+          record { kind = InBlock; class = Class 1; parameters = 1; captured = false ∷ []; outer = (Some 2); statements = Plain (Send 12 (Variable (Scoped 0 0)) (more_trees (Send 10 (Send 11 (Variable (Scoped 0 0)) no_trees) (more_trees (Constant (Integer (pos 20))) no_trees)) no_trees)) ∷ [] } ∷ [];
       initializers = record { code = 2; self = Nil; target = None } ∷ [];
       literals = trouble_literals;
       trouble_place = 0;
@@ -122,14 +121,14 @@ outer_then_resume =
       names = (codes "value") ∷ (codes "value:") ∷ (codes "value:value:") ∷ (61 ∷ []) ∷ (codes "defaultAction") ∷ (codes "isResumable") ∷ (codes "handles:") ∷ (codes "doesNotUnderstand:") ∷ (codes "printString") ∷ (codes "signal") ∷ (43 ∷ []) ∷ (codes "outer") ∷ (codes "resume:") ∷ (codes "on:do:") ∷ (codes "show:") ∷ [];
       classes = built_in_class_rows ++ record { name = 69 ∷ []; superclass = Some 23; in_file = true; indexed = NoIndexes; slots = 1; class_slots = 0 } ∷ [];
       methods = record { class = 30; side = OfInstance; selector = 4; code = 0 } ∷ record { class = 30; side = OfInstance; selector = 5; code = 1 } ∷ [];
-      bodies = 
-        record { kind = InMethod; class = Class 30; parameters = 0; captured = []; outer = None; statements = Return (Constant (Integer (pos 5))) ∷ [] } ∷
-        record { kind = InMethod; class = Class 30; parameters = 0; captured = []; outer = None; statements = Return (Constant True) ∷ [] } ∷
-        record { kind = InInitializer; class = Class 1; parameters = 0; captured = []; outer = None; statements = Plain (Send 14 (Constant Transcript) (more_trees (Send 8 (Send 13 (Block 3) (more_trees (Constant (Class 30)) (more_trees (Block 6) no_trees))) no_trees) no_trees)) ∷ [] } ∷
-        record { kind = InBlock; class = Class 1; parameters = 0; captured = []; outer = (Some 2); statements = Plain (Send 13 (Block 4) (more_trees (Constant (Class 30)) (more_trees (Block 5) no_trees))) ∷ [] } ∷
-        record { kind = InBlock; class = Class 1; parameters = 0; captured = []; outer = (Some 3); statements = Plain (Send 10 (Send 9 (Constant (Class 30)) no_trees) (more_trees (Constant (Integer (pos 100))) no_trees)) ∷ [] } ∷
-        record { kind = InBlock; class = Class 1; parameters = 1; captured = false ∷ false ∷ []; outer = (Some 3); statements = Plain (Assign (Scoped 0 1) (Send 11 (Variable (Scoped 0 0)) no_trees)) ∷ Plain (Send 12 (Variable (Scoped 0 0)) (more_trees (Send 10 (Variable (Scoped 0 1)) (more_trees (Constant (Integer (pos 1))) no_trees)) no_trees)) ∷ [] } ∷
-        record { kind = InBlock; class = Class 1; parameters = 1; captured = false ∷ []; outer = (Some 2); statements = Plain (Send 12 (Variable (Scoped 0 0)) (more_trees (Constant (Integer (pos 10))) no_trees)) ∷ [] } ∷ [];
+      bodies =
+          record { kind = InMethod; class = Class 30; parameters = 0; captured = []; outer = None; statements = Return (Constant (Integer (pos 5))) ∷ [] } ∷
+          record { kind = InMethod; class = Class 30; parameters = 0; captured = []; outer = None; statements = Return (Constant True) ∷ [] } ∷
+          record { kind = InInitializer; class = Class 1; parameters = 0; captured = []; outer = None; statements = Plain (Send 14 (Constant Transcript) (more_trees (Send 8 (Send 13 (Block 3) (more_trees (Constant (Class 30)) (more_trees (Block 6) no_trees))) no_trees) no_trees)) ∷ [] } ∷
+          record { kind = InBlock; class = Class 1; parameters = 0; captured = []; outer = (Some 2); statements = Plain (Send 13 (Block 4) (more_trees (Constant (Class 30)) (more_trees (Block 5) no_trees))) ∷ [] } ∷
+          record { kind = InBlock; class = Class 1; parameters = 0; captured = []; outer = (Some 3); statements = Plain (Send 10 (Send 9 (Constant (Class 30)) no_trees) (more_trees (Constant (Integer (pos 100))) no_trees)) ∷ [] } ∷
+          record { kind = InBlock; class = Class 1; parameters = 1; captured = false ∷ false ∷ []; outer = (Some 3); statements = Plain (Assign (Scoped 0 1) (Send 11 (Variable (Scoped 0 0)) no_trees)) ∷ Plain (Send 12 (Variable (Scoped 0 0)) (more_trees (Send 10 (Variable (Scoped 0 1)) (more_trees (Constant (Integer (pos 1))) no_trees)) no_trees)) ∷ [] } ∷
+          record { kind = InBlock; class = Class 1; parameters = 1; captured = false ∷ []; outer = (Some 2); statements = Plain (Send 12 (Variable (Scoped 0 0)) (more_trees (Constant (Integer (pos 10))) no_trees)) ∷ [] } ∷ [];
       initializers = record { code = 2; self = Nil; target = None } ∷ [];
       literals = trouble_literals;
       trouble_place = 0;
@@ -150,16 +149,16 @@ outer_return_past_point =
       names = (codes "value") ∷ (codes "value:") ∷ (codes "value:value:") ∷ (61 ∷ []) ∷ (codes "defaultAction") ∷ (codes "isResumable") ∷ (codes "handles:") ∷ (codes "doesNotUnderstand:") ∷ (codes "printString") ∷ (codes "signal") ∷ (codes "outer") ∷ (codes "show:") ∷ (codes "ensure:") ∷ (codes "on:do:") ∷ (codes "return:") ∷ [];
       classes = built_in_class_rows ++ record { name = 69 ∷ []; superclass = Some 23; in_file = true; indexed = NoIndexes; slots = 1; class_slots = 0 } ∷ [];
       methods = record { class = 30; side = OfInstance; selector = 4; code = 0 } ∷ record { class = 30; side = OfInstance; selector = 5; code = 1 } ∷ [];
-      bodies = 
-        record { kind = InMethod; class = Class 30; parameters = 0; captured = []; outer = None; statements = Return (Constant (Integer (pos 5))) ∷ [] } ∷
-        record { kind = InMethod; class = Class 30; parameters = 0; captured = []; outer = None; statements = Return (Constant True) ∷ [] } ∷
-        record { kind = InInitializer; class = Class 1; parameters = 0; captured = []; outer = None; statements = Plain (Send 11 (Constant Transcript) (more_trees (Send 8 (Send 13 (Block 3) (more_trees (Constant (Class 30)) (more_trees (Block 8) no_trees))) no_trees) no_trees)) ∷ [] } ∷
-        record { kind = InBlock; class = Class 1; parameters = 0; captured = []; outer = (Some 2); statements = Plain (Send 13 (Block 4) (more_trees (Constant (Class 30)) (more_trees (Block 5) no_trees))) ∷ [] } ∷
-        record { kind = InBlock; class = Class 1; parameters = 0; captured = []; outer = (Some 3); statements = Plain (Send 9 (Constant (Class 30)) no_trees) ∷ [] } ∷
-        record { kind = InBlock; class = Class 1; parameters = 1; captured = true ∷ []; outer = (Some 3); statements = Plain (Send 12 (Block 6) (more_trees (Block 7) no_trees)) ∷ Plain (Constant (Integer (pos 1))) ∷ [] } ∷
-        record { kind = InBlock; class = Class 1; parameters = 0; captured = []; outer = (Some 5); statements = Plain (Send 10 (Variable (Scoped 1 0)) no_trees) ∷ [] } ∷
-        record { kind = InBlock; class = Class 1; parameters = 0; captured = []; outer = (Some 5); statements = Plain (Send 11 (Constant Transcript) (more_trees (Constant (Object 0)) no_trees)) ∷ [] } ∷
-        record { kind = InBlock; class = Class 1; parameters = 1; captured = false ∷ []; outer = (Some 2); statements = Plain (Send 14 (Variable (Scoped 0 0)) (more_trees (Constant (Integer (pos 3))) no_trees)) ∷ [] } ∷ [];
+      bodies =
+          record { kind = InMethod; class = Class 30; parameters = 0; captured = []; outer = None; statements = Return (Constant (Integer (pos 5))) ∷ [] } ∷
+          record { kind = InMethod; class = Class 30; parameters = 0; captured = []; outer = None; statements = Return (Constant True) ∷ [] } ∷
+          record { kind = InInitializer; class = Class 1; parameters = 0; captured = []; outer = None; statements = Plain (Send 11 (Constant Transcript) (more_trees (Send 8 (Send 13 (Block 3) (more_trees (Constant (Class 30)) (more_trees (Block 8) no_trees))) no_trees) no_trees)) ∷ [] } ∷
+          record { kind = InBlock; class = Class 1; parameters = 0; captured = []; outer = (Some 2); statements = Plain (Send 13 (Block 4) (more_trees (Constant (Class 30)) (more_trees (Block 5) no_trees))) ∷ [] } ∷
+          record { kind = InBlock; class = Class 1; parameters = 0; captured = []; outer = (Some 3); statements = Plain (Send 9 (Constant (Class 30)) no_trees) ∷ [] } ∷
+          record { kind = InBlock; class = Class 1; parameters = 1; captured = true ∷ []; outer = (Some 3); statements = Plain (Send 12 (Block 6) (more_trees (Block 7) no_trees)) ∷ Plain (Constant (Integer (pos 1))) ∷ [] } ∷
+          record { kind = InBlock; class = Class 1; parameters = 0; captured = []; outer = (Some 5); statements = Plain (Send 10 (Variable (Scoped 1 0)) no_trees) ∷ [] } ∷
+          record { kind = InBlock; class = Class 1; parameters = 0; captured = []; outer = (Some 5); statements = Plain (Send 11 (Constant Transcript) (more_trees (Constant (Object 0)) no_trees)) ∷ [] } ∷
+          record { kind = InBlock; class = Class 1; parameters = 1; captured = false ∷ []; outer = (Some 2); statements = Plain (Send 14 (Variable (Scoped 0 0)) (more_trees (Constant (Integer (pos 3))) no_trees)) ∷ [] } ∷ [];
       initializers = record { code = 2; self = Nil; target = None } ∷ [];
       literals = (literal_string (120 ∷ []) ∷ []) ++ trouble_literals;
       trouble_place = 1;
@@ -180,10 +179,10 @@ default_resume =
       names = (codes "value") ∷ (codes "value:") ∷ (codes "value:value:") ∷ (61 ∷ []) ∷ (codes "defaultAction") ∷ (codes "isResumable") ∷ (codes "handles:") ∷ (codes "doesNotUnderstand:") ∷ (codes "printString") ∷ (codes "resume:") ∷ (codes "show:") ∷ (codes "signal") ∷ (43 ∷ []) ∷ [];
       classes = built_in_class_rows ++ record { name = 70 ∷ []; superclass = Some 24; in_file = true; indexed = NoIndexes; slots = 1; class_slots = 0 } ∷ [];
       methods = record { class = 30; side = OfInstance; selector = 5; code = 0 } ∷ record { class = 30; side = OfInstance; selector = 4; code = 1 } ∷ [];
-      bodies = 
-        record { kind = InMethod; class = Class 30; parameters = 0; captured = []; outer = None; statements = Return (Constant True) ∷ [] } ∷
-        record { kind = InMethod; class = Class 30; parameters = 0; captured = []; outer = None; statements = Plain (Send 9 Self (more_trees (Constant (Integer (pos 6))) no_trees)) ∷ Plain (Send 10 (Constant Transcript) (more_trees (Constant (Object 0)) no_trees)) ∷ [] } ∷
-        record { kind = InInitializer; class = Class 1; parameters = 0; captured = []; outer = None; statements = Plain (Send 10 (Constant Transcript) (more_trees (Send 8 (Send 12 (Send 11 (Constant (Class 30)) no_trees) (more_trees (Constant (Integer (pos 1))) no_trees)) no_trees) no_trees)) ∷ [] } ∷ [];
+      bodies =
+          record { kind = InMethod; class = Class 30; parameters = 0; captured = []; outer = None; statements = Return (Constant True) ∷ [] } ∷
+          record { kind = InMethod; class = Class 30; parameters = 0; captured = []; outer = None; statements = Plain (Send 9 Self (more_trees (Constant (Integer (pos 6))) no_trees)) ∷ Plain (Send 10 (Constant Transcript) (more_trees (Constant (Object 0)) no_trees)) ∷ [] } ∷
+          record { kind = InInitializer; class = Class 1; parameters = 0; captured = []; outer = None; statements = Plain (Send 10 (Constant Transcript) (more_trees (Send 8 (Send 12 (Send 11 (Constant (Class 30)) no_trees) (more_trees (Constant (Integer (pos 1))) no_trees)) no_trees) no_trees)) ∷ [] } ∷ [];
       initializers = record { code = 2; self = Nil; target = None } ∷ [];
       literals = (literal_string (codes "no") ∷ []) ++ trouble_literals;
       trouble_place = 1;
@@ -204,11 +203,11 @@ default_return =
       names = (codes "value") ∷ (codes "value:") ∷ (codes "value:value:") ∷ (61 ∷ []) ∷ (codes "defaultAction") ∷ (codes "isResumable") ∷ (codes "handles:") ∷ (codes "doesNotUnderstand:") ∷ (codes "printString") ∷ (codes "return:") ∷ (codes "messageText") ∷ (codes "on:do:") ∷ (codes "signal") ∷ (codes "show:") ∷ [];
       classes = built_in_class_rows ++ record { name = 70 ∷ []; superclass = Some 24; in_file = true; indexed = NoIndexes; slots = 1; class_slots = 0 } ∷ [];
       methods = record { class = 30; side = OfInstance; selector = 4; code = 0 } ∷ [];
-      bodies = 
-        record { kind = InMethod; class = Class 30; parameters = 0; captured = []; outer = None; statements = Return (Send 11 (Block 1) (more_trees (Constant (Class 24)) (more_trees (Block 2) no_trees))) ∷ [] } ∷
-        record { kind = InBlock; class = Class 30; parameters = 0; captured = []; outer = (Some 0); statements = Plain (Send 9 Self (more_trees (Constant (Integer (pos 6))) no_trees)) ∷ [] } ∷
-        record { kind = InBlock; class = Class 30; parameters = 1; captured = false ∷ []; outer = (Some 0); statements = Plain (Send 10 (Variable (Scoped 0 0)) no_trees) ∷ [] } ∷
-        record { kind = InInitializer; class = Class 1; parameters = 0; captured = []; outer = None; statements = Plain (Send 13 (Constant Transcript) (more_trees (Send 12 (Constant (Class 30)) no_trees) no_trees)) ∷ [] } ∷ [];
+      bodies =
+          record { kind = InMethod; class = Class 30; parameters = 0; captured = []; outer = None; statements = Return (Send 11 (Block 1) (more_trees (Constant (Class 24)) (more_trees (Block 2) no_trees))) ∷ [] } ∷
+          record { kind = InBlock; class = Class 30; parameters = 0; captured = []; outer = (Some 0); statements = Plain (Send 9 Self (more_trees (Constant (Integer (pos 6))) no_trees)) ∷ [] } ∷
+          record { kind = InBlock; class = Class 30; parameters = 1; captured = false ∷ []; outer = (Some 0); statements = Plain (Send 10 (Variable (Scoped 0 0)) no_trees) ∷ [] } ∷
+          record { kind = InInitializer; class = Class 1; parameters = 0; captured = []; outer = None; statements = Plain (Send 13 (Constant Transcript) (more_trees (Send 12 (Constant (Class 30)) no_trees) no_trees)) ∷ [] } ∷ [];
       initializers = record { code = 3; self = Nil; target = None } ∷ [];
       literals = trouble_literals;
       trouble_place = 0;
@@ -229,10 +228,10 @@ wait_counts =
       names = (codes "value") ∷ (codes "value:") ∷ (codes "value:value:") ∷ (61 ∷ []) ∷ (codes "defaultAction") ∷ (codes "isResumable") ∷ (codes "handles:") ∷ (codes "doesNotUnderstand:") ∷ (codes "printString") ∷ (codes "signal") ∷ (43 ∷ []) ∷ (codes "resume:") ∷ (codes "on:do:") ∷ (codes "show:") ∷ [];
       classes = built_in_class_rows;
       methods = [];
-      bodies = 
-        record { kind = InInitializer; class = Class 1; parameters = 0; captured = []; outer = None; statements = Plain (Send 13 (Constant Transcript) (more_trees (Send 8 (Send 12 (Block 1) (more_trees (Constant (Class 28)) (more_trees (Block 2) no_trees))) no_trees) no_trees)) ∷ [] } ∷
-        record { kind = InBlock; class = Class 1; parameters = 0; captured = []; outer = (Some 0); statements = Plain (Send 10 (Send 9 (Constant (Class 28)) no_trees) (more_trees (Constant (Integer (pos 1))) no_trees)) ∷ [] } ∷
-        record { kind = InBlock; class = Class 1; parameters = 1; captured = false ∷ []; outer = (Some 0); statements = Plain (Send 11 (Variable (Scoped 0 0)) (more_trees (Constant (Integer (pos 5))) no_trees)) ∷ [] } ∷ [];
+      bodies =
+          record { kind = InInitializer; class = Class 1; parameters = 0; captured = []; outer = None; statements = Plain (Send 13 (Constant Transcript) (more_trees (Send 8 (Send 12 (Block 1) (more_trees (Constant (Class 28)) (more_trees (Block 2) no_trees))) no_trees) no_trees)) ∷ [] } ∷
+          record { kind = InBlock; class = Class 1; parameters = 0; captured = []; outer = (Some 0); statements = Plain (Send 10 (Send 9 (Constant (Class 28)) no_trees) (more_trees (Constant (Integer (pos 1))) no_trees)) ∷ [] } ∷
+          record { kind = InBlock; class = Class 1; parameters = 1; captured = false ∷ []; outer = (Some 0); statements = Plain (Send 11 (Variable (Scoped 0 0)) (more_trees (Constant (Integer (pos 5))) no_trees)) ∷ [] } ∷ [];
       initializers = record { code = 0; self = Nil; target = None } ∷ [];
       literals = trouble_literals;
       trouble_place = 0;
@@ -253,12 +252,12 @@ turn_of_outer_context =
       names = (codes "value") ∷ (codes "value:") ∷ (codes "value:value:") ∷ (61 ∷ []) ∷ (codes "defaultAction") ∷ (codes "isResumable") ∷ (codes "handles:") ∷ (codes "doesNotUnderstand:") ∷ (codes "printString") ∷ (codes "signal") ∷ (codes "return:") ∷ (codes "on:do:") ∷ (codes "show:") ∷ [];
       classes = built_in_class_rows;
       methods = [];
-      bodies = 
-        record { kind = InInitializer; class = Class 1; parameters = 0; captured = []; outer = None; statements = Plain (Send 12 (Constant Transcript) (more_trees (Send 8 (Send 11 (Block 1) (more_trees (Constant (Class 24)) (more_trees (Block 2) no_trees))) no_trees) no_trees)) ∷ [] } ∷
-        record { kind = InBlock; class = Class 1; parameters = 0; captured = []; outer = (Some 0); statements = Plain (Send 9 (Constant (Class 24)) no_trees) ∷ Plain (Constant (Integer (pos 1))) ∷ [] } ∷
-        record { kind = InBlock; class = Class 1; parameters = 1; captured = true ∷ []; outer = (Some 0); statements = Plain (Send 11 (Block 3) (more_trees (Constant (Class 28)) (more_trees (Block 4) no_trees))) ∷ Plain (Constant (Integer (pos 5))) ∷ [] } ∷
-        record { kind = InBlock; class = Class 1; parameters = 0; captured = []; outer = (Some 2); statements = Plain (Send 9 (Constant (Class 28)) no_trees) ∷ [] } ∷
-        record { kind = InBlock; class = Class 1; parameters = 1; captured = false ∷ []; outer = (Some 2); statements = Plain (Send 10 (Variable (Scoped 1 0)) (more_trees (Constant (Integer (pos 4))) no_trees)) ∷ [] } ∷ [];
+      bodies =
+          record { kind = InInitializer; class = Class 1; parameters = 0; captured = []; outer = None; statements = Plain (Send 12 (Constant Transcript) (more_trees (Send 8 (Send 11 (Block 1) (more_trees (Constant (Class 24)) (more_trees (Block 2) no_trees))) no_trees) no_trees)) ∷ [] } ∷
+          record { kind = InBlock; class = Class 1; parameters = 0; captured = []; outer = (Some 0); statements = Plain (Send 9 (Constant (Class 24)) no_trees) ∷ Plain (Constant (Integer (pos 1))) ∷ [] } ∷
+          record { kind = InBlock; class = Class 1; parameters = 1; captured = true ∷ []; outer = (Some 0); statements = Plain (Send 11 (Block 3) (more_trees (Constant (Class 28)) (more_trees (Block 4) no_trees))) ∷ Plain (Constant (Integer (pos 5))) ∷ [] } ∷
+          record { kind = InBlock; class = Class 1; parameters = 0; captured = []; outer = (Some 2); statements = Plain (Send 9 (Constant (Class 28)) no_trees) ∷ [] } ∷
+          record { kind = InBlock; class = Class 1; parameters = 1; captured = false ∷ []; outer = (Some 2); statements = Plain (Send 10 (Variable (Scoped 1 0)) (more_trees (Constant (Integer (pos 4))) no_trees)) ∷ [] } ∷ [];
       initializers = record { code = 0; self = Nil; target = None } ∷ [];
       literals = trouble_literals;
       trouble_place = 0;
@@ -279,12 +278,12 @@ handler_value_goes_to_own_entry =
       names = (codes "value") ∷ (codes "value:") ∷ (codes "value:value:") ∷ (61 ∷ []) ∷ (codes "defaultAction") ∷ (codes "isResumable") ∷ (codes "handles:") ∷ (codes "doesNotUnderstand:") ∷ (codes "printString") ∷ (codes "signal") ∷ (codes "pass") ∷ (codes "on:do:") ∷ (43 ∷ []) ∷ (codes "show:") ∷ [];
       classes = built_in_class_rows;
       methods = [];
-      bodies = 
-        record { kind = InInitializer; class = Class 1; parameters = 0; captured = []; outer = None; statements = Plain (Send 13 (Constant Transcript) (more_trees (Send 8 (Send 12 (Send 11 (Block 1) (more_trees (Constant (Class 24)) (more_trees (Block 4) no_trees))) (more_trees (Constant (Integer (pos 10))) no_trees)) no_trees) no_trees)) ∷ [] } ∷
-        record { kind = InBlock; class = Class 1; parameters = 0; captured = []; outer = (Some 0); statements = Plain (Send 11 (Block 2) (more_trees (Constant (Class 24)) (more_trees (Block 3) no_trees))) ∷ [] } ∷
-        record { kind = InBlock; class = Class 1; parameters = 0; captured = []; outer = (Some 1); statements = Plain (Send 9 (Constant (Class 24)) no_trees) ∷ Plain (Constant (Integer (pos 1))) ∷ [] } ∷
-        record { kind = InBlock; class = Class 1; parameters = 1; captured = false ∷ []; outer = (Some 1); statements = Plain (Send 10 (Variable (Scoped 0 0)) no_trees) ∷ Plain (Constant (Integer (pos 2))) ∷ [] } ∷
-        record { kind = InBlock; class = Class 1; parameters = 1; captured = false ∷ []; outer = (Some 0); statements = Plain (Constant (Integer (pos 3))) ∷ [] } ∷ [];
+      bodies =
+          record { kind = InInitializer; class = Class 1; parameters = 0; captured = []; outer = None; statements = Plain (Send 13 (Constant Transcript) (more_trees (Send 8 (Send 12 (Send 11 (Block 1) (more_trees (Constant (Class 24)) (more_trees (Block 4) no_trees))) (more_trees (Constant (Integer (pos 10))) no_trees)) no_trees) no_trees)) ∷ [] } ∷
+          record { kind = InBlock; class = Class 1; parameters = 0; captured = []; outer = (Some 0); statements = Plain (Send 11 (Block 2) (more_trees (Constant (Class 24)) (more_trees (Block 3) no_trees))) ∷ [] } ∷
+          record { kind = InBlock; class = Class 1; parameters = 0; captured = []; outer = (Some 1); statements = Plain (Send 9 (Constant (Class 24)) no_trees) ∷ Plain (Constant (Integer (pos 1))) ∷ [] } ∷
+          record { kind = InBlock; class = Class 1; parameters = 1; captured = false ∷ []; outer = (Some 1); statements = Plain (Send 10 (Variable (Scoped 0 0)) no_trees) ∷ Plain (Constant (Integer (pos 2))) ∷ [] } ∷
+          record { kind = InBlock; class = Class 1; parameters = 1; captured = false ∷ []; outer = (Some 0); statements = Plain (Constant (Integer (pos 3))) ∷ [] } ∷ [];
       initializers = record { code = 0; self = Nil; target = None } ∷ [];
       literals = trouble_literals;
       trouble_place = 0;
@@ -305,12 +304,12 @@ resignal_above =
       names = (codes "value") ∷ (codes "value:") ∷ (codes "value:value:") ∷ (61 ∷ []) ∷ (codes "defaultAction") ∷ (codes "isResumable") ∷ (codes "handles:") ∷ (codes "doesNotUnderstand:") ∷ (codes "printString") ∷ (codes "signal:") ∷ (codes "new") ∷ (codes "messageText:") ∷ (codes "yourself") ∷ (codes "resignalAs:") ∷ (codes "on:do:") ∷ (codes "messageText") ∷ (codes "return:") ∷ (codes "show:") ∷ [];
       classes = built_in_class_rows;
       methods = [];
-      bodies = 
-        record { kind = InInitializer; class = Class 1; parameters = 0; captured = []; outer = None; statements = Plain (Send 17 (Constant Transcript) (more_trees (Send 14 (Block 1) (more_trees (Constant (Class 28)) (more_trees (Block 4) no_trees))) no_trees)) ∷ [] } ∷
-        record { kind = InBlock; class = Class 1; parameters = 0; captured = []; outer = (Some 0); statements = Plain (Send 14 (Block 2) (more_trees (Constant (Class 24)) (more_trees (Block 3) no_trees))) ∷ [] } ∷
-        record { kind = InBlock; class = Class 1; parameters = 0; captured = []; outer = (Some 1); statements = Plain (Send 9 (Constant (Class 24)) (more_trees (Constant (Object 0)) no_trees)) ∷ [] } ∷
-        record { kind = InBlock; class = Class 1; parameters = 1; captured = false ∷ []; outer = (Some 1); statements = Plain (Send 13 (Variable (Scoped 0 0)) (more_trees (Cascade (Send 10 (Constant (Class 28)) no_trees) (more_messages 11 (more_trees (Constant (Object 1)) no_trees) (more_messages 12 no_trees no_messages))) no_trees)) ∷ [] } ∷
-        record { kind = InBlock; class = Class 1; parameters = 1; captured = false ∷ []; outer = (Some 0); statements = Plain (Send 16 (Variable (Scoped 0 0)) (more_trees (Send 15 (Variable (Scoped 0 0)) no_trees) no_trees)) ∷ [] } ∷ [];
+      bodies =
+          record { kind = InInitializer; class = Class 1; parameters = 0; captured = []; outer = None; statements = Plain (Send 17 (Constant Transcript) (more_trees (Send 14 (Block 1) (more_trees (Constant (Class 28)) (more_trees (Block 4) no_trees))) no_trees)) ∷ [] } ∷
+          record { kind = InBlock; class = Class 1; parameters = 0; captured = []; outer = (Some 0); statements = Plain (Send 14 (Block 2) (more_trees (Constant (Class 24)) (more_trees (Block 3) no_trees))) ∷ [] } ∷
+          record { kind = InBlock; class = Class 1; parameters = 0; captured = []; outer = (Some 1); statements = Plain (Send 9 (Constant (Class 24)) (more_trees (Constant (Object 0)) no_trees)) ∷ [] } ∷
+          record { kind = InBlock; class = Class 1; parameters = 1; captured = false ∷ []; outer = (Some 1); statements = Plain (Send 13 (Variable (Scoped 0 0)) (more_trees (Cascade (Send 10 (Constant (Class 28)) no_trees) (more_messages 11 (more_trees (Constant (Object 1)) no_trees) (more_messages 12 no_trees no_messages))) no_trees)) ∷ [] } ∷
+          record { kind = InBlock; class = Class 1; parameters = 1; captured = false ∷ []; outer = (Some 0); statements = Plain (Send 16 (Variable (Scoped 0 0)) (more_trees (Send 15 (Variable (Scoped 0 0)) no_trees) no_trees)) ∷ [] } ∷ [];
       initializers = record { code = 0; self = Nil; target = None } ∷ [];
       literals = (literal_string (97 ∷ []) ∷ literal_string (119 ∷ []) ∷ []) ++ trouble_literals;
       trouble_place = 2;
@@ -331,13 +330,13 @@ resignal_old_live =
       names = (codes "value") ∷ (codes "value:") ∷ (codes "value:value:") ∷ (61 ∷ []) ∷ (codes "defaultAction") ∷ (codes "isResumable") ∷ (codes "handles:") ∷ (codes "doesNotUnderstand:") ∷ (codes "printString") ∷ (codes "signal") ∷ (codes "new") ∷ (codes "resignalAs:") ∷ (codes "on:do:") ∷ (codes "messageText") ∷ (codes "show:") ∷ [];
       classes = built_in_class_rows ++ record { name = 70 ∷ []; superclass = Some 23; in_file = true; indexed = NoIndexes; slots = 1; class_slots = 0 } ∷ [];
       methods = record { class = 30; side = OfInstance; selector = 4; code = 0 } ∷ [];
-      bodies = 
-        record { kind = InMethod; class = Class 30; parameters = 0; captured = []; outer = None; statements = Return (Send 9 (Variable (Shared 0)) no_trees) ∷ [] } ∷
-        record { kind = InInitializer; class = Class 1; parameters = 0; captured = []; outer = None; statements = Plain (Send 14 (Constant Transcript) (more_trees (Send 12 (Block 2) (more_trees (Constant (Class 24)) (more_trees (Block 5) no_trees))) no_trees)) ∷ [] } ∷
-        record { kind = InBlock; class = Class 1; parameters = 0; captured = []; outer = (Some 1); statements = Plain (Send 12 (Block 3) (more_trees (Constant (Class 26)) (more_trees (Block 4) no_trees))) ∷ [] } ∷
-        record { kind = InBlock; class = Class 1; parameters = 0; captured = []; outer = (Some 2); statements = Plain (Assign (Shared 0) (Send 10 (Constant (Class 26)) no_trees)) ∷ Plain (Send 9 (Variable (Shared 0)) no_trees) ∷ [] } ∷
-        record { kind = InBlock; class = Class 1; parameters = 1; captured = false ∷ []; outer = (Some 2); statements = Plain (Send 11 (Variable (Scoped 0 0)) (more_trees (Send 10 (Constant (Class 30)) no_trees) no_trees)) ∷ [] } ∷
-        record { kind = InBlock; class = Class 1; parameters = 1; captured = false ∷ []; outer = (Some 1); statements = Plain (Send 13 (Variable (Scoped 0 0)) no_trees) ∷ [] } ∷ [];
+      bodies =
+          record { kind = InMethod; class = Class 30; parameters = 0; captured = []; outer = None; statements = Return (Send 9 (Variable (Shared 0)) no_trees) ∷ [] } ∷
+          record { kind = InInitializer; class = Class 1; parameters = 0; captured = []; outer = None; statements = Plain (Send 14 (Constant Transcript) (more_trees (Send 12 (Block 2) (more_trees (Constant (Class 24)) (more_trees (Block 5) no_trees))) no_trees)) ∷ [] } ∷
+          record { kind = InBlock; class = Class 1; parameters = 0; captured = []; outer = (Some 1); statements = Plain (Send 12 (Block 3) (more_trees (Constant (Class 26)) (more_trees (Block 4) no_trees))) ∷ [] } ∷
+          record { kind = InBlock; class = Class 1; parameters = 0; captured = []; outer = (Some 2); statements = Plain (Assign (Shared 0) (Send 10 (Constant (Class 26)) no_trees)) ∷ Plain (Send 9 (Variable (Shared 0)) no_trees) ∷ [] } ∷
+          record { kind = InBlock; class = Class 1; parameters = 1; captured = false ∷ []; outer = (Some 2); statements = Plain (Send 11 (Variable (Scoped 0 0)) (more_trees (Send 10 (Constant (Class 30)) no_trees) no_trees)) ∷ [] } ∷
+          record { kind = InBlock; class = Class 1; parameters = 1; captured = false ∷ []; outer = (Some 1); statements = Plain (Send 13 (Variable (Scoped 0 0)) no_trees) ∷ [] } ∷ [];
       initializers = record { code = 1; self = Nil; target = None } ∷ [];
       literals = trouble_literals;
       trouble_place = 0;
@@ -358,15 +357,15 @@ handles_two_asks =
       names = (codes "value") ∷ (codes "value:") ∷ (codes "value:value:") ∷ (61 ∷ []) ∷ (codes "defaultAction") ∷ (codes "isResumable") ∷ (codes "handles:") ∷ (codes "doesNotUnderstand:") ∷ (codes "printString") ∷ (codes "show:") ∷ (codes "signal:") ∷ (codes "new") ∷ (codes "on:do:") ∷ [];
       classes = built_in_class_rows ++ record { name = 81 ∷ []; superclass = Some 0; in_file = true; indexed = NoIndexes; slots = 0; class_slots = 0 } ∷ [];
       methods = record { class = 30; side = OfInstance; selector = 6; code = 0 } ∷ [];
-      bodies = 
-        record { kind = InMethod; class = Class 30; parameters = 1; captured = false ∷ []; outer = None; statements = Plain (Send 9 (Constant Transcript) (more_trees (Constant (Object 0)) no_trees)) ∷ Return (Constant False) ∷ [] } ∷
-        record { kind = InInitializer; class = Class 1; parameters = 0; captured = []; outer = None; statements = Plain (Send 9 (Constant Transcript) (more_trees (Send 8 (Send 12 (Block 2) (more_trees (Constant (Class 24)) (more_trees (Block 7) no_trees))) no_trees) no_trees)) ∷ [] } ∷
-        record { kind = InBlock; class = Class 1; parameters = 0; captured = []; outer = (Some 1); statements = Plain (Send 12 (Block 3) (more_trees (Send 11 (Constant (Class 30)) no_trees) (more_trees (Block 6) no_trees))) ∷ [] } ∷
-        record { kind = InBlock; class = Class 1; parameters = 0; captured = []; outer = (Some 2); statements = Plain (Send 12 (Block 4) (more_trees (Send 11 (Constant (Class 30)) no_trees) (more_trees (Block 5) no_trees))) ∷ [] } ∷
-        record { kind = InBlock; class = Class 1; parameters = 0; captured = []; outer = (Some 3); statements = Plain (Send 10 (Constant (Class 24)) (more_trees (Constant (Object 1)) no_trees)) ∷ Plain (Constant (Integer (pos 1))) ∷ [] } ∷
-        record { kind = InBlock; class = Class 1; parameters = 1; captured = false ∷ []; outer = (Some 3); statements = Plain (Constant (Integer (pos 2))) ∷ [] } ∷
-        record { kind = InBlock; class = Class 1; parameters = 1; captured = false ∷ []; outer = (Some 2); statements = Plain (Constant (Integer (pos 3))) ∷ [] } ∷
-        record { kind = InBlock; class = Class 1; parameters = 1; captured = false ∷ []; outer = (Some 1); statements = Plain (Constant (Integer (pos 4))) ∷ [] } ∷ [];
+      bodies =
+          record { kind = InMethod; class = Class 30; parameters = 1; captured = false ∷ []; outer = None; statements = Plain (Send 9 (Constant Transcript) (more_trees (Constant (Object 0)) no_trees)) ∷ Return (Constant False) ∷ [] } ∷
+          record { kind = InInitializer; class = Class 1; parameters = 0; captured = []; outer = None; statements = Plain (Send 9 (Constant Transcript) (more_trees (Send 8 (Send 12 (Block 2) (more_trees (Constant (Class 24)) (more_trees (Block 7) no_trees))) no_trees) no_trees)) ∷ [] } ∷
+          record { kind = InBlock; class = Class 1; parameters = 0; captured = []; outer = (Some 1); statements = Plain (Send 12 (Block 3) (more_trees (Send 11 (Constant (Class 30)) no_trees) (more_trees (Block 6) no_trees))) ∷ [] } ∷
+          record { kind = InBlock; class = Class 1; parameters = 0; captured = []; outer = (Some 2); statements = Plain (Send 12 (Block 4) (more_trees (Send 11 (Constant (Class 30)) no_trees) (more_trees (Block 5) no_trees))) ∷ [] } ∷
+          record { kind = InBlock; class = Class 1; parameters = 0; captured = []; outer = (Some 3); statements = Plain (Send 10 (Constant (Class 24)) (more_trees (Constant (Object 1)) no_trees)) ∷ Plain (Constant (Integer (pos 1))) ∷ [] } ∷
+          record { kind = InBlock; class = Class 1; parameters = 1; captured = false ∷ []; outer = (Some 3); statements = Plain (Constant (Integer (pos 2))) ∷ [] } ∷
+          record { kind = InBlock; class = Class 1; parameters = 1; captured = false ∷ []; outer = (Some 2); statements = Plain (Constant (Integer (pos 3))) ∷ [] } ∷
+          record { kind = InBlock; class = Class 1; parameters = 1; captured = false ∷ []; outer = (Some 1); statements = Plain (Constant (Integer (pos 4))) ∷ [] } ∷ [];
       initializers = record { code = 1; self = Nil; target = None } ∷ [];
       literals = (literal_string (113 ∷ []) ∷ literal_string (120 ∷ []) ∷ []) ++ trouble_literals;
       trouble_place = 2;
@@ -387,13 +386,13 @@ handles_nested =
       names = (codes "value") ∷ (codes "value:") ∷ (codes "value:value:") ∷ (61 ∷ []) ∷ (codes "defaultAction") ∷ (codes "isResumable") ∷ (codes "handles:") ∷ (codes "doesNotUnderstand:") ∷ (codes "printString") ∷ (codes "show:") ∷ (codes "signal") ∷ (codes "isNested") ∷ (codes "on:do:") ∷ (codes "new") ∷ [];
       classes = built_in_class_rows ++ record { name = 81 ∷ []; superclass = Some 0; in_file = true; indexed = NoIndexes; slots = 0; class_slots = 0 } ∷ [];
       methods = record { class = 30; side = OfInstance; selector = 6; code = 0 } ∷ [];
-      bodies = 
-        record { kind = InMethod; class = Class 30; parameters = 1; captured = false ∷ []; outer = None; statements = Plain (Send 9 (Constant Transcript) (more_trees (Constant (Object 0)) no_trees)) ∷ Return (Constant True) ∷ [] } ∷
-        record { kind = InInitializer; class = Class 1; parameters = 0; captured = []; outer = None; statements = Plain (Send 12 (Block 2) (more_trees (Send 13 (Constant (Class 30)) no_trees) (more_trees (Block 5) no_trees))) ∷ [] } ∷
-        record { kind = InBlock; class = Class 1; parameters = 0; captured = []; outer = (Some 1); statements = Plain (Send 12 (Block 3) (more_trees (Constant (Class 24)) (more_trees (Block 4) no_trees))) ∷ [] } ∷
-        record { kind = InBlock; class = Class 1; parameters = 0; captured = []; outer = (Some 2); statements = Plain (Send 10 (Constant (Class 24)) no_trees) ∷ [] } ∷
-        record { kind = InBlock; class = Class 1; parameters = 1; captured = false ∷ []; outer = (Some 2); statements = Plain (Send 9 (Constant Transcript) (more_trees (Send 8 (Send 11 (Variable (Scoped 0 0)) no_trees) no_trees) no_trees)) ∷ [] } ∷
-        record { kind = InBlock; class = Class 1; parameters = 1; captured = false ∷ []; outer = (Some 1); statements = Plain (Constant (Integer (pos 1))) ∷ [] } ∷ [];
+      bodies =
+          record { kind = InMethod; class = Class 30; parameters = 1; captured = false ∷ []; outer = None; statements = Plain (Send 9 (Constant Transcript) (more_trees (Constant (Object 0)) no_trees)) ∷ Return (Constant True) ∷ [] } ∷
+          record { kind = InInitializer; class = Class 1; parameters = 0; captured = []; outer = None; statements = Plain (Send 12 (Block 2) (more_trees (Send 13 (Constant (Class 30)) no_trees) (more_trees (Block 5) no_trees))) ∷ [] } ∷
+          record { kind = InBlock; class = Class 1; parameters = 0; captured = []; outer = (Some 1); statements = Plain (Send 12 (Block 3) (more_trees (Constant (Class 24)) (more_trees (Block 4) no_trees))) ∷ [] } ∷
+          record { kind = InBlock; class = Class 1; parameters = 0; captured = []; outer = (Some 2); statements = Plain (Send 10 (Constant (Class 24)) no_trees) ∷ [] } ∷
+          record { kind = InBlock; class = Class 1; parameters = 1; captured = false ∷ []; outer = (Some 2); statements = Plain (Send 9 (Constant Transcript) (more_trees (Send 8 (Send 11 (Variable (Scoped 0 0)) no_trees) no_trees) no_trees)) ∷ [] } ∷
+          record { kind = InBlock; class = Class 1; parameters = 1; captured = false ∷ []; outer = (Some 1); statements = Plain (Constant (Integer (pos 1))) ∷ [] } ∷ [];
       initializers = record { code = 1; self = Nil; target = None } ∷ [];
       literals = (literal_string (113 ∷ []) ∷ []) ++ trouble_literals;
       trouble_place = 1;
@@ -414,12 +413,12 @@ perform_control =
       names = (codes "value") ∷ (codes "value:") ∷ (codes "value:value:") ∷ (61 ∷ []) ∷ (codes "defaultAction") ∷ (codes "isResumable") ∷ (codes "handles:") ∷ (codes "doesNotUnderstand:") ∷ (codes "printString") ∷ (codes "signal") ∷ (codes "pass") ∷ (codes "perform:") ∷ (codes "on:do:") ∷ (codes "return:") ∷ (codes "perform:with:") ∷ (codes "show:") ∷ [];
       classes = built_in_class_rows;
       methods = [];
-      bodies = 
-        record { kind = InInitializer; class = Class 1; parameters = 0; captured = []; outer = None; statements = Plain (Send 15 (Constant Transcript) (more_trees (Send 8 (Send 12 (Block 1) (more_trees (Constant (Class 24)) (more_trees (Block 4) no_trees))) no_trees) no_trees)) ∷ [] } ∷
-        record { kind = InBlock; class = Class 1; parameters = 0; captured = []; outer = (Some 0); statements = Plain (Send 12 (Block 2) (more_trees (Constant (Class 24)) (more_trees (Block 3) no_trees))) ∷ [] } ∷
-        record { kind = InBlock; class = Class 1; parameters = 0; captured = []; outer = (Some 1); statements = Plain (Send 9 (Constant (Class 24)) no_trees) ∷ Plain (Constant (Integer (pos 1))) ∷ [] } ∷
-        record { kind = InBlock; class = Class 1; parameters = 1; captured = false ∷ []; outer = (Some 1); statements = Plain (Send 11 (Variable (Scoped 0 0)) (more_trees (Constant (Symbol 10)) no_trees)) ∷ Plain (Constant (Integer (pos 2))) ∷ [] } ∷
-        record { kind = InBlock; class = Class 1; parameters = 1; captured = false ∷ []; outer = (Some 0); statements = Plain (Send 14 (Variable (Scoped 0 0)) (more_trees (Constant (Symbol 13)) (more_trees (Constant (Integer (pos 3))) no_trees))) ∷ [] } ∷ [];
+      bodies =
+          record { kind = InInitializer; class = Class 1; parameters = 0; captured = []; outer = None; statements = Plain (Send 15 (Constant Transcript) (more_trees (Send 8 (Send 12 (Block 1) (more_trees (Constant (Class 24)) (more_trees (Block 4) no_trees))) no_trees) no_trees)) ∷ [] } ∷
+          record { kind = InBlock; class = Class 1; parameters = 0; captured = []; outer = (Some 0); statements = Plain (Send 12 (Block 2) (more_trees (Constant (Class 24)) (more_trees (Block 3) no_trees))) ∷ [] } ∷
+          record { kind = InBlock; class = Class 1; parameters = 0; captured = []; outer = (Some 1); statements = Plain (Send 9 (Constant (Class 24)) no_trees) ∷ Plain (Constant (Integer (pos 1))) ∷ [] } ∷
+          record { kind = InBlock; class = Class 1; parameters = 1; captured = false ∷ []; outer = (Some 1); statements = Plain (Send 11 (Variable (Scoped 0 0)) (more_trees (Constant (Symbol 10)) no_trees)) ∷ Plain (Constant (Integer (pos 2))) ∷ [] } ∷
+          record { kind = InBlock; class = Class 1; parameters = 1; captured = false ∷ []; outer = (Some 0); statements = Plain (Send 14 (Variable (Scoped 0 0)) (more_trees (Constant (Symbol 13)) (more_trees (Constant (Integer (pos 3))) no_trees))) ∷ [] } ∷ [];
       initializers = record { code = 0; self = Nil; target = None } ∷ [];
       literals = trouble_literals;
       trouble_place = 0;
@@ -440,11 +439,11 @@ second_initializer =
       names = (codes "value") ∷ (codes "value:") ∷ (codes "value:value:") ∷ (61 ∷ []) ∷ (codes "defaultAction") ∷ (codes "isResumable") ∷ (codes "handles:") ∷ (codes "doesNotUnderstand:") ∷ (codes "printString") ∷ (43 ∷ []) ∷ [];
       classes = built_in_class_rows;
       methods = [];
-      bodies = 
-        record { kind = InInitializer; class = Class 1; parameters = 0; captured = true ∷ []; outer = None; statements = Plain (Assign (Scoped 0 0) (Constant (Integer (pos 1)))) ∷ Plain (Send 0 (Block 1) no_trees) ∷ [] } ∷
-        record { kind = InBlock; class = Class 1; parameters = 0; captured = []; outer = (Some 0); statements = Plain (Variable (Scoped 1 0)) ∷ [] } ∷
-        record { kind = InInitializer; class = Class 1; parameters = 0; captured = true ∷ true ∷ []; outer = None; statements = Plain (Assign (Scoped 0 0) (Constant (Integer (pos 1)))) ∷ Plain (Assign (Scoped 0 1) (Constant (Integer (pos 2)))) ∷ Plain (Send 0 (Block 3) no_trees) ∷ [] } ∷
-        record { kind = InBlock; class = Class 1; parameters = 0; captured = []; outer = (Some 2); statements = Plain (Send 9 (Variable (Scoped 1 0)) (more_trees (Variable (Scoped 1 1)) no_trees)) ∷ [] } ∷ [];
+      bodies =
+          record { kind = InInitializer; class = Class 1; parameters = 0; captured = true ∷ []; outer = None; statements = Plain (Assign (Scoped 0 0) (Constant (Integer (pos 1)))) ∷ Plain (Send 0 (Block 1) no_trees) ∷ [] } ∷
+          record { kind = InBlock; class = Class 1; parameters = 0; captured = []; outer = (Some 0); statements = Plain (Variable (Scoped 1 0)) ∷ [] } ∷
+          record { kind = InInitializer; class = Class 1; parameters = 0; captured = true ∷ true ∷ []; outer = None; statements = Plain (Assign (Scoped 0 0) (Constant (Integer (pos 1)))) ∷ Plain (Assign (Scoped 0 1) (Constant (Integer (pos 2)))) ∷ Plain (Send 0 (Block 3) no_trees) ∷ [] } ∷
+          record { kind = InBlock; class = Class 1; parameters = 0; captured = []; outer = (Some 2); statements = Plain (Send 9 (Variable (Scoped 1 0)) (more_trees (Variable (Scoped 1 1)) no_trees)) ∷ [] } ∷ [];
       initializers = record { code = 0; self = Nil; target = None } ∷ record { code = 2; self = Nil; target = None } ∷ [];
       literals = trouble_literals;
       trouble_place = 0;

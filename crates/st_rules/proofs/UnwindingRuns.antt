@@ -1,13 +1,12 @@
 -- Runs with non-local returns and termination blocks. Each is computed by the rules and by both machines.
-use Rattle.std.proofs.Common.{◌≡◌, ℕ, List, [], ◌∷◌, ◌++◌, refl, true, false, Some, None, pos, negsuc}
+use Rattle.std.proofs.Common.{[], ◌∷◌, ◌++◌, refl, true, false, Some, None, pos}
 use Rattle.std.specs.Prelude.{codes}
-use Rattle.object_heap.specs.declared.value.Value.TheVariants.{Nil, True, False, Integer, Character, Symbol, Class, Meta, Transcript, Object}
-use Rattle.st_code.specs.Program.{Program, Scoped, Slot, ClassSlot, Shared, Tree, Constant, Self, Variable, Assign, Block, Send, SuperSend, Cascade, SuperCascade, Trees, no_trees, more_trees, Messages, no_messages, more_messages, Plain, Return, InMethod, InBlock, InInitializer, OfInstance, OfClass, NoIndexes, ByObject, ByByte}
+use Rattle.object_heap.specs.declared.value.Value.TheVariants.{Nil, True, Integer, Class, Transcript, Object}
+use Rattle.st_code.specs.Program.{Program, Scoped, Shared, Constant, Variable, Assign, Block, Send, no_trees, more_trees, Plain, Return, InMethod, InBlock, InInitializer, OfInstance, NoIndexes}
 use Rattle.st_rules.specs.Events.{Event}
-use Rattle.st_rules.specs.State.{StepLimit, DepthLimit, CellLimit, IntegerLimit}
 use Rattle.st_rules.specs.BuiltIns.{built_in_class_rows}
-use Rattle.st_rules.specs.Literals.{literal_string, literal_array, trouble_literals}
-use Rattle.st_rules.proofs.Computing.{Reports, computing, WasDone, WasUnhandled, WasAtLimit}
+use Rattle.st_rules.specs.Literals.{literal_string, trouble_literals}
+use Rattle.st_rules.proofs.Computing.{Reports, computing, WasDone, WasUnhandled}
 
 -- Class named: 'Q' superclass: 'Object'!Q method!blk ^[^1]!Global initializer!| b | b := Q new blk. Transcript show: ([b value] on: Error do: [:e | e messageText]). b value!
 abbrev home_gone : Program
@@ -16,12 +15,12 @@ home_gone =
       names = (codes "value") ∷ (codes "value:") ∷ (codes "value:value:") ∷ (61 ∷ []) ∷ (codes "defaultAction") ∷ (codes "isResumable") ∷ (codes "handles:") ∷ (codes "doesNotUnderstand:") ∷ (codes "printString") ∷ (codes "blk") ∷ (codes "new") ∷ (codes "messageText") ∷ (codes "on:do:") ∷ (codes "show:") ∷ [];
       classes = built_in_class_rows ++ record { name = 81 ∷ []; superclass = Some 0; in_file = true; indexed = NoIndexes; slots = 0; class_slots = 0 } ∷ [];
       methods = record { class = 30; side = OfInstance; selector = 9; code = 0 } ∷ [];
-      bodies = 
-        record { kind = InMethod; class = Class 30; parameters = 0; captured = []; outer = None; statements = Return (Block 1) ∷ [] } ∷
-        record { kind = InBlock; class = Class 30; parameters = 0; captured = []; outer = (Some 0); statements = Return (Constant (Integer (pos 1))) ∷ [] } ∷
-        record { kind = InInitializer; class = Class 1; parameters = 0; captured = true ∷ []; outer = None; statements = Plain (Assign (Scoped 0 0) (Send 9 (Send 10 (Constant (Class 30)) no_trees) no_trees)) ∷ Plain (Send 13 (Constant Transcript) (more_trees (Send 12 (Block 3) (more_trees (Constant (Class 24)) (more_trees (Block 4) no_trees))) no_trees)) ∷ Plain (Send 0 (Variable (Scoped 0 0)) no_trees) ∷ [] } ∷
-        record { kind = InBlock; class = Class 1; parameters = 0; captured = []; outer = (Some 2); statements = Plain (Send 0 (Variable (Scoped 1 0)) no_trees) ∷ [] } ∷
-        record { kind = InBlock; class = Class 1; parameters = 1; captured = false ∷ []; outer = (Some 2); statements = Plain (Send 11 (Variable (Scoped 0 0)) no_trees) ∷ [] } ∷ [];
+      bodies =
+          record { kind = InMethod; class = Class 30; parameters = 0; captured = []; outer = None; statements = Return (Block 1) ∷ [] } ∷
+          record { kind = InBlock; class = Class 30; parameters = 0; captured = []; outer = (Some 0); statements = Return (Constant (Integer (pos 1))) ∷ [] } ∷
+          record { kind = InInitializer; class = Class 1; parameters = 0; captured = true ∷ []; outer = None; statements = Plain (Assign (Scoped 0 0) (Send 9 (Send 10 (Constant (Class 30)) no_trees) no_trees)) ∷ Plain (Send 13 (Constant Transcript) (more_trees (Send 12 (Block 3) (more_trees (Constant (Class 24)) (more_trees (Block 4) no_trees))) no_trees)) ∷ Plain (Send 0 (Variable (Scoped 0 0)) no_trees) ∷ [] } ∷
+          record { kind = InBlock; class = Class 1; parameters = 0; captured = []; outer = (Some 2); statements = Plain (Send 0 (Variable (Scoped 1 0)) no_trees) ∷ [] } ∷
+          record { kind = InBlock; class = Class 1; parameters = 1; captured = false ∷ []; outer = (Some 2); statements = Plain (Send 11 (Variable (Scoped 0 0)) no_trees) ∷ [] } ∷ [];
       initializers = record { code = 2; self = Nil; target = None } ∷ [];
       literals = trouble_literals;
       trouble_place = 0;
@@ -42,14 +41,14 @@ unwinding_replaced =
       names = (codes "value") ∷ (codes "value:") ∷ (codes "value:value:") ∷ (61 ∷ []) ∷ (codes "defaultAction") ∷ (codes "isResumable") ∷ (codes "handles:") ∷ (codes "doesNotUnderstand:") ∷ (codes "printString") ∷ (codes "signal:") ∷ (codes "ensure:") ∷ (codes "show:") ∷ (codes "messageText") ∷ (codes "return:") ∷ (codes "on:do:") ∷ [];
       classes = built_in_class_rows;
       methods = [];
-      bodies = 
-        record { kind = InInitializer; class = Class 1; parameters = 0; captured = []; outer = None; statements = Plain (Send 11 (Constant Transcript) (more_trees (Send 14 (Block 1) (more_trees (Constant (Class 24)) (more_trees (Block 6) no_trees))) no_trees)) ∷ [] } ∷
-        record { kind = InBlock; class = Class 1; parameters = 0; captured = []; outer = (Some 0); statements = Plain (Send 10 (Block 2) (more_trees (Block 5) no_trees)) ∷ [] } ∷
-        record { kind = InBlock; class = Class 1; parameters = 0; captured = []; outer = (Some 1); statements = Plain (Send 10 (Block 3) (more_trees (Block 4) no_trees)) ∷ [] } ∷
-        record { kind = InBlock; class = Class 1; parameters = 0; captured = []; outer = (Some 2); statements = Plain (Send 9 (Constant (Class 24)) (more_trees (Constant (Object 0)) no_trees)) ∷ [] } ∷
-        record { kind = InBlock; class = Class 1; parameters = 0; captured = []; outer = (Some 2); statements = Plain (Send 9 (Constant (Class 24)) (more_trees (Constant (Object 1)) no_trees)) ∷ [] } ∷
-        record { kind = InBlock; class = Class 1; parameters = 0; captured = []; outer = (Some 1); statements = Plain (Send 11 (Constant Transcript) (more_trees (Constant (Object 2)) no_trees)) ∷ [] } ∷
-        record { kind = InBlock; class = Class 1; parameters = 1; captured = false ∷ []; outer = (Some 0); statements = Plain (Send 13 (Variable (Scoped 0 0)) (more_trees (Send 12 (Variable (Scoped 0 0)) no_trees) no_trees)) ∷ [] } ∷ [];
+      bodies =
+          record { kind = InInitializer; class = Class 1; parameters = 0; captured = []; outer = None; statements = Plain (Send 11 (Constant Transcript) (more_trees (Send 14 (Block 1) (more_trees (Constant (Class 24)) (more_trees (Block 6) no_trees))) no_trees)) ∷ [] } ∷
+          record { kind = InBlock; class = Class 1; parameters = 0; captured = []; outer = (Some 0); statements = Plain (Send 10 (Block 2) (more_trees (Block 5) no_trees)) ∷ [] } ∷
+          record { kind = InBlock; class = Class 1; parameters = 0; captured = []; outer = (Some 1); statements = Plain (Send 10 (Block 3) (more_trees (Block 4) no_trees)) ∷ [] } ∷
+          record { kind = InBlock; class = Class 1; parameters = 0; captured = []; outer = (Some 2); statements = Plain (Send 9 (Constant (Class 24)) (more_trees (Constant (Object 0)) no_trees)) ∷ [] } ∷
+          record { kind = InBlock; class = Class 1; parameters = 0; captured = []; outer = (Some 2); statements = Plain (Send 9 (Constant (Class 24)) (more_trees (Constant (Object 1)) no_trees)) ∷ [] } ∷
+          record { kind = InBlock; class = Class 1; parameters = 0; captured = []; outer = (Some 1); statements = Plain (Send 11 (Constant Transcript) (more_trees (Constant (Object 2)) no_trees)) ∷ [] } ∷
+          record { kind = InBlock; class = Class 1; parameters = 1; captured = false ∷ []; outer = (Some 0); statements = Plain (Send 13 (Variable (Scoped 0 0)) (more_trees (Send 12 (Variable (Scoped 0 0)) no_trees) no_trees)) ∷ [] } ∷ [];
       initializers = record { code = 0; self = Nil; target = None } ∷ [];
       literals = (literal_string (97 ∷ []) ∷ literal_string (98 ∷ []) ∷ literal_string (99 ∷ []) ∷ []) ++ trouble_literals;
       trouble_place = 3;
@@ -70,13 +69,13 @@ return_replaced =
       names = (codes "value") ∷ (codes "value:") ∷ (codes "value:value:") ∷ (61 ∷ []) ∷ (codes "defaultAction") ∷ (codes "isResumable") ∷ (codes "handles:") ∷ (codes "doesNotUnderstand:") ∷ (codes "printString") ∷ (codes "ensure:") ∷ (codes "show:") ∷ (109 ∷ []) ∷ (codes "new") ∷ [];
       classes = built_in_class_rows ++ record { name = 81 ∷ []; superclass = Some 0; in_file = true; indexed = NoIndexes; slots = 0; class_slots = 0 } ∷ [];
       methods = record { class = 30; side = OfInstance; selector = 11; code = 0 } ∷ [];
-      bodies = 
-        record { kind = InMethod; class = Class 30; parameters = 0; captured = []; outer = None; statements = Plain (Send 9 (Block 1) (more_trees (Block 4) no_trees)) ∷ Return (Constant (Integer (pos 3))) ∷ [] } ∷
-        record { kind = InBlock; class = Class 30; parameters = 0; captured = []; outer = (Some 0); statements = Plain (Send 9 (Block 2) (more_trees (Block 3) no_trees)) ∷ [] } ∷
-        record { kind = InBlock; class = Class 30; parameters = 0; captured = []; outer = (Some 1); statements = Return (Constant (Integer (pos 1))) ∷ [] } ∷
-        record { kind = InBlock; class = Class 30; parameters = 0; captured = []; outer = (Some 1); statements = Return (Constant (Integer (pos 2))) ∷ [] } ∷
-        record { kind = InBlock; class = Class 30; parameters = 0; captured = []; outer = (Some 0); statements = Plain (Send 10 (Constant Transcript) (more_trees (Constant (Object 0)) no_trees)) ∷ [] } ∷
-        record { kind = InInitializer; class = Class 1; parameters = 0; captured = []; outer = None; statements = Plain (Send 10 (Constant Transcript) (more_trees (Send 8 (Send 11 (Send 12 (Constant (Class 30)) no_trees) no_trees) no_trees) no_trees)) ∷ [] } ∷ [];
+      bodies =
+          record { kind = InMethod; class = Class 30; parameters = 0; captured = []; outer = None; statements = Plain (Send 9 (Block 1) (more_trees (Block 4) no_trees)) ∷ Return (Constant (Integer (pos 3))) ∷ [] } ∷
+          record { kind = InBlock; class = Class 30; parameters = 0; captured = []; outer = (Some 0); statements = Plain (Send 9 (Block 2) (more_trees (Block 3) no_trees)) ∷ [] } ∷
+          record { kind = InBlock; class = Class 30; parameters = 0; captured = []; outer = (Some 1); statements = Return (Constant (Integer (pos 1))) ∷ [] } ∷
+          record { kind = InBlock; class = Class 30; parameters = 0; captured = []; outer = (Some 1); statements = Return (Constant (Integer (pos 2))) ∷ [] } ∷
+          record { kind = InBlock; class = Class 30; parameters = 0; captured = []; outer = (Some 0); statements = Plain (Send 10 (Constant Transcript) (more_trees (Constant (Object 0)) no_trees)) ∷ [] } ∷
+          record { kind = InInitializer; class = Class 1; parameters = 0; captured = []; outer = None; statements = Plain (Send 10 (Constant Transcript) (more_trees (Send 8 (Send 11 (Send 12 (Constant (Class 30)) no_trees) no_trees) no_trees) no_trees)) ∷ [] } ∷ [];
       initializers = record { code = 5; self = Nil; target = None } ∷ [];
       literals = (literal_string (120 ∷ []) ∷ []) ++ trouble_literals;
       trouble_place = 1;
@@ -97,14 +96,14 @@ retry_in_unwinding =
       names = (codes "value") ∷ (codes "value:") ∷ (codes "value:value:") ∷ (61 ∷ []) ∷ (codes "defaultAction") ∷ (codes "isResumable") ∷ (codes "handles:") ∷ (codes "doesNotUnderstand:") ∷ (codes "printString") ∷ (43 ∷ []) ∷ (codes "signal") ∷ (codes "signal:") ∷ (codes "ifTrue:") ∷ (codes "ensure:") ∷ (codes "messageText") ∷ (codes "show:") ∷ (60 ∷ []) ∷ (codes "retry") ∷ (codes "on:do:") ∷ [];
       classes = built_in_class_rows;
       methods = [];
-      bodies = 
-        record { kind = InInitializer; class = Class 1; parameters = 0; captured = true ∷ []; outer = None; statements = Plain (Assign (Scoped 0 0) (Constant (Integer (pos 0)))) ∷ Plain (Send 18 (Block 1) (more_trees (Constant (Class 24)) (more_trees (Block 5) no_trees))) ∷ [] } ∷
-        record { kind = InBlock; class = Class 1; parameters = 0; captured = []; outer = (Some 0); statements = Plain (Send 13 (Block 2) (more_trees (Block 3) no_trees)) ∷ [] } ∷
-        record { kind = InBlock; class = Class 1; parameters = 0; captured = []; outer = (Some 1); statements = Plain (Assign (Scoped 2 0) (Send 9 (Variable (Scoped 2 0)) (more_trees (Constant (Integer (pos 1))) no_trees))) ∷ Plain (Send 10 (Constant (Class 24)) no_trees) ∷ [] } ∷
-        record { kind = InBlock; class = Class 1; parameters = 0; captured = []; outer = (Some 1); statements = Plain (Send 12 (Send 3 (Variable (Scoped 2 0)) (more_trees (Constant (Integer (pos 1))) no_trees)) (more_trees (Block 4) no_trees)) ∷ [] } ∷
-        record { kind = InBlock; class = Class 1; parameters = 0; captured = []; outer = (Some 3); statements = Plain (Send 11 (Constant (Class 24)) (more_trees (Constant (Object 0)) no_trees)) ∷ [] } ∷
-        record { kind = InBlock; class = Class 1; parameters = 1; captured = true ∷ []; outer = (Some 0); statements = Plain (Send 15 (Constant Transcript) (more_trees (Send 14 (Variable (Scoped 0 0)) no_trees) no_trees)) ∷ Plain (Send 12 (Send 16 (Variable (Scoped 1 0)) (more_trees (Constant (Integer (pos 3))) no_trees)) (more_trees (Block 6) no_trees)) ∷ [] } ∷
-        record { kind = InBlock; class = Class 1; parameters = 0; captured = []; outer = (Some 5); statements = Plain (Send 17 (Variable (Scoped 1 0)) no_trees) ∷ [] } ∷ [];
+      bodies =
+          record { kind = InInitializer; class = Class 1; parameters = 0; captured = true ∷ []; outer = None; statements = Plain (Assign (Scoped 0 0) (Constant (Integer (pos 0)))) ∷ Plain (Send 18 (Block 1) (more_trees (Constant (Class 24)) (more_trees (Block 5) no_trees))) ∷ [] } ∷
+          record { kind = InBlock; class = Class 1; parameters = 0; captured = []; outer = (Some 0); statements = Plain (Send 13 (Block 2) (more_trees (Block 3) no_trees)) ∷ [] } ∷
+          record { kind = InBlock; class = Class 1; parameters = 0; captured = []; outer = (Some 1); statements = Plain (Assign (Scoped 2 0) (Send 9 (Variable (Scoped 2 0)) (more_trees (Constant (Integer (pos 1))) no_trees))) ∷ Plain (Send 10 (Constant (Class 24)) no_trees) ∷ [] } ∷
+          record { kind = InBlock; class = Class 1; parameters = 0; captured = []; outer = (Some 1); statements = Plain (Send 12 (Send 3 (Variable (Scoped 2 0)) (more_trees (Constant (Integer (pos 1))) no_trees)) (more_trees (Block 4) no_trees)) ∷ [] } ∷
+          record { kind = InBlock; class = Class 1; parameters = 0; captured = []; outer = (Some 3); statements = Plain (Send 11 (Constant (Class 24)) (more_trees (Constant (Object 0)) no_trees)) ∷ [] } ∷
+          record { kind = InBlock; class = Class 1; parameters = 1; captured = true ∷ []; outer = (Some 0); statements = Plain (Send 15 (Constant Transcript) (more_trees (Send 14 (Variable (Scoped 0 0)) no_trees) no_trees)) ∷ Plain (Send 12 (Send 16 (Variable (Scoped 1 0)) (more_trees (Constant (Integer (pos 3))) no_trees)) (more_trees (Block 6) no_trees)) ∷ [] } ∷
+          record { kind = InBlock; class = Class 1; parameters = 0; captured = []; outer = (Some 5); statements = Plain (Send 17 (Variable (Scoped 1 0)) no_trees) ∷ [] } ∷ [];
       initializers = record { code = 0; self = Nil; target = None } ∷ [];
       literals = (literal_string (codes "again") ∷ []) ++ trouble_literals;
       trouble_place = 1;
@@ -125,11 +124,11 @@ return_out_of_action =
       names = (codes "value") ∷ (codes "value:") ∷ (codes "value:value:") ∷ (61 ∷ []) ∷ (codes "defaultAction") ∷ (codes "isResumable") ∷ (codes "handles:") ∷ (codes "doesNotUnderstand:") ∷ (codes "printString") ∷ (codes "signal:") ∷ (codes "ensure:") ∷ (109 ∷ []) ∷ (codes "new") ∷ (codes "show:") ∷ [];
       classes = built_in_class_rows ++ record { name = 81 ∷ []; superclass = Some 0; in_file = true; indexed = NoIndexes; slots = 0; class_slots = 0 } ∷ [];
       methods = record { class = 30; side = OfInstance; selector = 11; code = 0 } ∷ [];
-      bodies = 
-        record { kind = InMethod; class = Class 30; parameters = 0; captured = []; outer = None; statements = Plain (Send 10 (Block 1) (more_trees (Block 2) no_trees)) ∷ [] } ∷
-        record { kind = InBlock; class = Class 30; parameters = 0; captured = []; outer = (Some 0); statements = Plain (Send 9 (Constant (Class 24)) (more_trees (Constant (Object 0)) no_trees)) ∷ [] } ∷
-        record { kind = InBlock; class = Class 30; parameters = 0; captured = []; outer = (Some 0); statements = Return (Constant (Integer (pos 7))) ∷ [] } ∷
-        record { kind = InInitializer; class = Class 1; parameters = 0; captured = []; outer = None; statements = Plain (Send 13 (Constant Transcript) (more_trees (Send 8 (Send 11 (Send 12 (Constant (Class 30)) no_trees) no_trees) no_trees) no_trees)) ∷ [] } ∷ [];
+      bodies =
+          record { kind = InMethod; class = Class 30; parameters = 0; captured = []; outer = None; statements = Plain (Send 10 (Block 1) (more_trees (Block 2) no_trees)) ∷ [] } ∷
+          record { kind = InBlock; class = Class 30; parameters = 0; captured = []; outer = (Some 0); statements = Plain (Send 9 (Constant (Class 24)) (more_trees (Constant (Object 0)) no_trees)) ∷ [] } ∷
+          record { kind = InBlock; class = Class 30; parameters = 0; captured = []; outer = (Some 0); statements = Return (Constant (Integer (pos 7))) ∷ [] } ∷
+          record { kind = InInitializer; class = Class 1; parameters = 0; captured = []; outer = None; statements = Plain (Send 13 (Constant Transcript) (more_trees (Send 8 (Send 11 (Send 12 (Constant (Class 30)) no_trees) no_trees) no_trees) no_trees)) ∷ [] } ∷ [];
       initializers = record { code = 3; self = Nil; target = None } ∷ [];
       literals = (literal_string (97 ∷ []) ∷ []) ++ trouble_literals;
       trouble_place = 1;
@@ -150,12 +149,12 @@ action_in_handler =
       names = (codes "value") ∷ (codes "value:") ∷ (codes "value:value:") ∷ (61 ∷ []) ∷ (codes "defaultAction") ∷ (codes "isResumable") ∷ (codes "handles:") ∷ (codes "doesNotUnderstand:") ∷ (codes "printString") ∷ (codes "signal") ∷ (codes "return:") ∷ (codes "show:") ∷ (codes "ensure:") ∷ (codes "on:do:") ∷ [];
       classes = built_in_class_rows;
       methods = [];
-      bodies = 
-        record { kind = InInitializer; class = Class 1; parameters = 0; captured = []; outer = None; statements = Plain (Send 11 (Constant Transcript) (more_trees (Send 8 (Send 13 (Block 1) (more_trees (Constant (Class 24)) (more_trees (Block 2) no_trees))) no_trees) no_trees)) ∷ [] } ∷
-        record { kind = InBlock; class = Class 1; parameters = 0; captured = []; outer = (Some 0); statements = Plain (Send 9 (Constant (Class 24)) no_trees) ∷ [] } ∷
-        record { kind = InBlock; class = Class 1; parameters = 1; captured = true ∷ []; outer = (Some 0); statements = Plain (Send 12 (Block 3) (more_trees (Block 4) no_trees)) ∷ [] } ∷
-        record { kind = InBlock; class = Class 1; parameters = 0; captured = []; outer = (Some 2); statements = Plain (Send 10 (Variable (Scoped 1 0)) (more_trees (Constant (Integer (pos 4))) no_trees)) ∷ [] } ∷
-        record { kind = InBlock; class = Class 1; parameters = 0; captured = []; outer = (Some 2); statements = Plain (Send 11 (Constant Transcript) (more_trees (Constant (Object 0)) no_trees)) ∷ [] } ∷ [];
+      bodies =
+          record { kind = InInitializer; class = Class 1; parameters = 0; captured = []; outer = None; statements = Plain (Send 11 (Constant Transcript) (more_trees (Send 8 (Send 13 (Block 1) (more_trees (Constant (Class 24)) (more_trees (Block 2) no_trees))) no_trees) no_trees)) ∷ [] } ∷
+          record { kind = InBlock; class = Class 1; parameters = 0; captured = []; outer = (Some 0); statements = Plain (Send 9 (Constant (Class 24)) no_trees) ∷ [] } ∷
+          record { kind = InBlock; class = Class 1; parameters = 1; captured = true ∷ []; outer = (Some 0); statements = Plain (Send 12 (Block 3) (more_trees (Block 4) no_trees)) ∷ [] } ∷
+          record { kind = InBlock; class = Class 1; parameters = 0; captured = []; outer = (Some 2); statements = Plain (Send 10 (Variable (Scoped 1 0)) (more_trees (Constant (Integer (pos 4))) no_trees)) ∷ [] } ∷
+          record { kind = InBlock; class = Class 1; parameters = 0; captured = []; outer = (Some 2); statements = Plain (Send 11 (Constant Transcript) (more_trees (Constant (Object 0)) no_trees)) ∷ [] } ∷ [];
       initializers = record { code = 0; self = Nil; target = None } ∷ [];
       literals = (literal_string (104 ∷ []) ∷ []) ++ trouble_literals;
       trouble_place = 1;
@@ -176,10 +175,10 @@ not_curtailed =
       names = (codes "value") ∷ (codes "value:") ∷ (codes "value:value:") ∷ (61 ∷ []) ∷ (codes "defaultAction") ∷ (codes "isResumable") ∷ (codes "handles:") ∷ (codes "doesNotUnderstand:") ∷ (codes "printString") ∷ (codes "show:") ∷ (codes "ifCurtailed:") ∷ [];
       classes = built_in_class_rows;
       methods = [];
-      bodies = 
-        record { kind = InInitializer; class = Class 1; parameters = 0; captured = []; outer = None; statements = Plain (Send 9 (Constant Transcript) (more_trees (Send 8 (Send 10 (Block 1) (more_trees (Block 2) no_trees)) no_trees) no_trees)) ∷ [] } ∷
-        record { kind = InBlock; class = Class 1; parameters = 0; captured = []; outer = (Some 0); statements = Plain (Constant (Integer (pos 3))) ∷ [] } ∷
-        record { kind = InBlock; class = Class 1; parameters = 0; captured = []; outer = (Some 0); statements = Plain (Send 9 (Constant Transcript) (more_trees (Constant (Object 0)) no_trees)) ∷ [] } ∷ [];
+      bodies =
+          record { kind = InInitializer; class = Class 1; parameters = 0; captured = []; outer = None; statements = Plain (Send 9 (Constant Transcript) (more_trees (Send 8 (Send 10 (Block 1) (more_trees (Block 2) no_trees)) no_trees) no_trees)) ∷ [] } ∷
+          record { kind = InBlock; class = Class 1; parameters = 0; captured = []; outer = (Some 0); statements = Plain (Constant (Integer (pos 3))) ∷ [] } ∷
+          record { kind = InBlock; class = Class 1; parameters = 0; captured = []; outer = (Some 0); statements = Plain (Send 9 (Constant Transcript) (more_trees (Constant (Object 0)) no_trees)) ∷ [] } ∷ [];
       initializers = record { code = 0; self = Nil; target = None } ∷ [];
       literals = (literal_string (120 ∷ []) ∷ []) ++ trouble_literals;
       trouble_place = 1;
@@ -200,11 +199,11 @@ ensure_value_then_go =
       names = (codes "value") ∷ (codes "value:") ∷ (codes "value:value:") ∷ (61 ∷ []) ∷ (codes "defaultAction") ∷ (codes "isResumable") ∷ (codes "handles:") ∷ (codes "doesNotUnderstand:") ∷ (codes "printString") ∷ (codes "ensure:") ∷ (109 ∷ []) ∷ (codes "new") ∷ (codes "show:") ∷ [];
       classes = built_in_class_rows ++ record { name = 81 ∷ []; superclass = Some 0; in_file = true; indexed = NoIndexes; slots = 0; class_slots = 0 } ∷ [];
       methods = record { class = 30; side = OfInstance; selector = 10; code = 0 } ∷ [];
-      bodies = 
-        record { kind = InMethod; class = Class 30; parameters = 0; captured = []; outer = None; statements = Plain (Send 9 (Block 1) (more_trees (Block 2) no_trees)) ∷ Return (Constant (Integer (pos 1))) ∷ [] } ∷
-        record { kind = InBlock; class = Class 30; parameters = 0; captured = []; outer = (Some 0); statements = Plain (Constant (Integer (pos 3))) ∷ [] } ∷
-        record { kind = InBlock; class = Class 30; parameters = 0; captured = []; outer = (Some 0); statements = Return (Constant (Integer (pos 7))) ∷ [] } ∷
-        record { kind = InInitializer; class = Class 1; parameters = 0; captured = []; outer = None; statements = Plain (Send 12 (Constant Transcript) (more_trees (Send 8 (Send 10 (Send 11 (Constant (Class 30)) no_trees) no_trees) no_trees) no_trees)) ∷ [] } ∷ [];
+      bodies =
+          record { kind = InMethod; class = Class 30; parameters = 0; captured = []; outer = None; statements = Plain (Send 9 (Block 1) (more_trees (Block 2) no_trees)) ∷ Return (Constant (Integer (pos 1))) ∷ [] } ∷
+          record { kind = InBlock; class = Class 30; parameters = 0; captured = []; outer = (Some 0); statements = Plain (Constant (Integer (pos 3))) ∷ [] } ∷
+          record { kind = InBlock; class = Class 30; parameters = 0; captured = []; outer = (Some 0); statements = Return (Constant (Integer (pos 7))) ∷ [] } ∷
+          record { kind = InInitializer; class = Class 1; parameters = 0; captured = []; outer = None; statements = Plain (Send 12 (Constant Transcript) (more_trees (Send 8 (Send 10 (Send 11 (Constant (Class 30)) no_trees) no_trees) no_trees) no_trees)) ∷ [] } ∷ [];
       initializers = record { code = 3; self = Nil; target = None } ∷ [];
       literals = trouble_literals;
       trouble_place = 0;
@@ -225,11 +224,11 @@ ensure_go_then_value =
       names = (codes "value") ∷ (codes "value:") ∷ (codes "value:value:") ∷ (61 ∷ []) ∷ (codes "defaultAction") ∷ (codes "isResumable") ∷ (codes "handles:") ∷ (codes "doesNotUnderstand:") ∷ (codes "printString") ∷ (codes "ensure:") ∷ (109 ∷ []) ∷ (codes "new") ∷ (codes "show:") ∷ [];
       classes = built_in_class_rows ++ record { name = 81 ∷ []; superclass = Some 0; in_file = true; indexed = NoIndexes; slots = 0; class_slots = 0 } ∷ [];
       methods = record { class = 30; side = OfInstance; selector = 10; code = 0 } ∷ [];
-      bodies = 
-        record { kind = InMethod; class = Class 30; parameters = 0; captured = []; outer = None; statements = Plain (Send 9 (Block 1) (more_trees (Block 2) no_trees)) ∷ Return (Constant (Integer (pos 1))) ∷ [] } ∷
-        record { kind = InBlock; class = Class 30; parameters = 0; captured = []; outer = (Some 0); statements = Return (Constant (Integer (pos 3))) ∷ [] } ∷
-        record { kind = InBlock; class = Class 30; parameters = 0; captured = []; outer = (Some 0); statements = Plain (Constant (Integer (pos 9))) ∷ [] } ∷
-        record { kind = InInitializer; class = Class 1; parameters = 0; captured = []; outer = None; statements = Plain (Send 12 (Constant Transcript) (more_trees (Send 8 (Send 10 (Send 11 (Constant (Class 30)) no_trees) no_trees) no_trees) no_trees)) ∷ [] } ∷ [];
+      bodies =
+          record { kind = InMethod; class = Class 30; parameters = 0; captured = []; outer = None; statements = Plain (Send 9 (Block 1) (more_trees (Block 2) no_trees)) ∷ Return (Constant (Integer (pos 1))) ∷ [] } ∷
+          record { kind = InBlock; class = Class 30; parameters = 0; captured = []; outer = (Some 0); statements = Return (Constant (Integer (pos 3))) ∷ [] } ∷
+          record { kind = InBlock; class = Class 30; parameters = 0; captured = []; outer = (Some 0); statements = Plain (Constant (Integer (pos 9))) ∷ [] } ∷
+          record { kind = InInitializer; class = Class 1; parameters = 0; captured = []; outer = None; statements = Plain (Send 12 (Constant Transcript) (more_trees (Send 8 (Send 10 (Send 11 (Constant (Class 30)) no_trees) no_trees) no_trees) no_trees)) ∷ [] } ∷ [];
       initializers = record { code = 3; self = Nil; target = None } ∷ [];
       literals = trouble_literals;
       trouble_place = 0;
@@ -250,11 +249,11 @@ curtail_go_in_block =
       names = (codes "value") ∷ (codes "value:") ∷ (codes "value:value:") ∷ (61 ∷ []) ∷ (codes "defaultAction") ∷ (codes "isResumable") ∷ (codes "handles:") ∷ (codes "doesNotUnderstand:") ∷ (codes "printString") ∷ (codes "ifCurtailed:") ∷ (109 ∷ []) ∷ (codes "new") ∷ (codes "show:") ∷ [];
       classes = built_in_class_rows ++ record { name = 81 ∷ []; superclass = Some 0; in_file = true; indexed = NoIndexes; slots = 0; class_slots = 0 } ∷ [];
       methods = record { class = 30; side = OfInstance; selector = 10; code = 0 } ∷ [];
-      bodies = 
-        record { kind = InMethod; class = Class 30; parameters = 0; captured = []; outer = None; statements = Plain (Send 9 (Block 1) (more_trees (Block 2) no_trees)) ∷ Return (Constant (Integer (pos 1))) ∷ [] } ∷
-        record { kind = InBlock; class = Class 30; parameters = 0; captured = []; outer = (Some 0); statements = Return (Constant (Integer (pos 3))) ∷ [] } ∷
-        record { kind = InBlock; class = Class 30; parameters = 0; captured = []; outer = (Some 0); statements = Return (Constant (Integer (pos 4))) ∷ [] } ∷
-        record { kind = InInitializer; class = Class 1; parameters = 0; captured = []; outer = None; statements = Plain (Send 12 (Constant Transcript) (more_trees (Send 8 (Send 10 (Send 11 (Constant (Class 30)) no_trees) no_trees) no_trees) no_trees)) ∷ [] } ∷ [];
+      bodies =
+          record { kind = InMethod; class = Class 30; parameters = 0; captured = []; outer = None; statements = Plain (Send 9 (Block 1) (more_trees (Block 2) no_trees)) ∷ Return (Constant (Integer (pos 1))) ∷ [] } ∷
+          record { kind = InBlock; class = Class 30; parameters = 0; captured = []; outer = (Some 0); statements = Return (Constant (Integer (pos 3))) ∷ [] } ∷
+          record { kind = InBlock; class = Class 30; parameters = 0; captured = []; outer = (Some 0); statements = Return (Constant (Integer (pos 4))) ∷ [] } ∷
+          record { kind = InInitializer; class = Class 1; parameters = 0; captured = []; outer = None; statements = Plain (Send 12 (Constant Transcript) (more_trees (Send 8 (Send 10 (Send 11 (Constant (Class 30)) no_trees) no_trees) no_trees) no_trees)) ∷ [] } ∷ [];
       initializers = record { code = 3; self = Nil; target = None } ∷ [];
       literals = trouble_literals;
       trouble_place = 0;
@@ -275,14 +274,14 @@ ensure_signals_inside =
       names = (codes "value") ∷ (codes "value:") ∷ (codes "value:value:") ∷ (61 ∷ []) ∷ (codes "defaultAction") ∷ (codes "isResumable") ∷ (codes "handles:") ∷ (codes "doesNotUnderstand:") ∷ (codes "printString") ∷ (codes "signal:") ∷ (codes "ensure:") ∷ (codes "show:") ∷ (codes "resume:") ∷ (codes "on:do:") ∷ (codes "messageText") ∷ [];
       classes = built_in_class_rows;
       methods = [];
-      bodies = 
-        record { kind = InInitializer; class = Class 1; parameters = 0; captured = []; outer = None; statements = Plain (Send 11 (Constant Transcript) (more_trees (Send 13 (Block 1) (more_trees (Constant (Class 24)) (more_trees (Block 6) no_trees))) no_trees)) ∷ [] } ∷
-        record { kind = InBlock; class = Class 1; parameters = 0; captured = []; outer = (Some 0); statements = Plain (Send 13 (Block 2) (more_trees (Constant (Class 28)) (more_trees (Block 5) no_trees))) ∷ [] } ∷
-        record { kind = InBlock; class = Class 1; parameters = 0; captured = []; outer = (Some 1); statements = Plain (Send 10 (Block 3) (more_trees (Block 4) no_trees)) ∷ [] } ∷
-        record { kind = InBlock; class = Class 1; parameters = 0; captured = []; outer = (Some 2); statements = Plain (Send 9 (Constant (Class 24)) (more_trees (Constant (Object 0)) no_trees)) ∷ [] } ∷
-        record { kind = InBlock; class = Class 1; parameters = 0; captured = []; outer = (Some 2); statements = Plain (Send 9 (Constant (Class 28)) (more_trees (Constant (Object 1)) no_trees)) ∷ [] } ∷
-        record { kind = InBlock; class = Class 1; parameters = 1; captured = false ∷ []; outer = (Some 1); statements = Plain (Send 11 (Constant Transcript) (more_trees (Constant (Object 2)) no_trees)) ∷ Plain (Send 12 (Variable (Scoped 0 0)) (more_trees (Constant (Integer (pos 1))) no_trees)) ∷ [] } ∷
-        record { kind = InBlock; class = Class 1; parameters = 1; captured = false ∷ []; outer = (Some 0); statements = Plain (Send 14 (Variable (Scoped 0 0)) no_trees) ∷ [] } ∷ [];
+      bodies =
+          record { kind = InInitializer; class = Class 1; parameters = 0; captured = []; outer = None; statements = Plain (Send 11 (Constant Transcript) (more_trees (Send 13 (Block 1) (more_trees (Constant (Class 24)) (more_trees (Block 6) no_trees))) no_trees)) ∷ [] } ∷
+          record { kind = InBlock; class = Class 1; parameters = 0; captured = []; outer = (Some 0); statements = Plain (Send 13 (Block 2) (more_trees (Constant (Class 28)) (more_trees (Block 5) no_trees))) ∷ [] } ∷
+          record { kind = InBlock; class = Class 1; parameters = 0; captured = []; outer = (Some 1); statements = Plain (Send 10 (Block 3) (more_trees (Block 4) no_trees)) ∷ [] } ∷
+          record { kind = InBlock; class = Class 1; parameters = 0; captured = []; outer = (Some 2); statements = Plain (Send 9 (Constant (Class 24)) (more_trees (Constant (Object 0)) no_trees)) ∷ [] } ∷
+          record { kind = InBlock; class = Class 1; parameters = 0; captured = []; outer = (Some 2); statements = Plain (Send 9 (Constant (Class 28)) (more_trees (Constant (Object 1)) no_trees)) ∷ [] } ∷
+          record { kind = InBlock; class = Class 1; parameters = 1; captured = false ∷ []; outer = (Some 1); statements = Plain (Send 11 (Constant Transcript) (more_trees (Constant (Object 2)) no_trees)) ∷ Plain (Send 12 (Variable (Scoped 0 0)) (more_trees (Constant (Integer (pos 1))) no_trees)) ∷ [] } ∷
+          record { kind = InBlock; class = Class 1; parameters = 1; captured = false ∷ []; outer = (Some 0); statements = Plain (Send 14 (Variable (Scoped 0 0)) no_trees) ∷ [] } ∷ [];
       initializers = record { code = 0; self = Nil; target = None } ∷ [];
       literals = (literal_string (97 ∷ []) ∷ literal_string (119 ∷ []) ∷ literal_string (87 ∷ []) ∷ []) ++ trouble_literals;
       trouble_place = 3;
@@ -303,12 +302,12 @@ terminate_replaced =
       names = (codes "value") ∷ (codes "value:") ∷ (codes "value:value:") ∷ (61 ∷ []) ∷ (codes "defaultAction") ∷ (codes "isResumable") ∷ (codes "handles:") ∷ (codes "doesNotUnderstand:") ∷ (codes "printString") ∷ (codes "signal:") ∷ (codes "show:") ∷ (codes "ensure:") ∷ [];
       classes = built_in_class_rows;
       methods = [];
-      bodies = 
-        record { kind = InInitializer; class = Class 1; parameters = 0; captured = []; outer = None; statements = Plain (Send 11 (Block 1) (more_trees (Block 4) no_trees)) ∷ [] } ∷
-        record { kind = InBlock; class = Class 1; parameters = 0; captured = []; outer = (Some 0); statements = Plain (Send 11 (Block 2) (more_trees (Block 3) no_trees)) ∷ [] } ∷
-        record { kind = InBlock; class = Class 1; parameters = 0; captured = []; outer = (Some 1); statements = Plain (Send 9 (Constant (Class 24)) (more_trees (Constant (Object 0)) no_trees)) ∷ [] } ∷
-        record { kind = InBlock; class = Class 1; parameters = 0; captured = []; outer = (Some 1); statements = Plain (Send 10 (Constant Transcript) (more_trees (Constant (Object 1)) no_trees)) ∷ Plain (Send 9 (Constant (Class 24)) (more_trees (Constant (Object 2)) no_trees)) ∷ [] } ∷
-        record { kind = InBlock; class = Class 1; parameters = 0; captured = []; outer = (Some 0); statements = Plain (Send 10 (Constant Transcript) (more_trees (Constant (Object 3)) no_trees)) ∷ [] } ∷ [];
+      bodies =
+          record { kind = InInitializer; class = Class 1; parameters = 0; captured = []; outer = None; statements = Plain (Send 11 (Block 1) (more_trees (Block 4) no_trees)) ∷ [] } ∷
+          record { kind = InBlock; class = Class 1; parameters = 0; captured = []; outer = (Some 0); statements = Plain (Send 11 (Block 2) (more_trees (Block 3) no_trees)) ∷ [] } ∷
+          record { kind = InBlock; class = Class 1; parameters = 0; captured = []; outer = (Some 1); statements = Plain (Send 9 (Constant (Class 24)) (more_trees (Constant (Object 0)) no_trees)) ∷ [] } ∷
+          record { kind = InBlock; class = Class 1; parameters = 0; captured = []; outer = (Some 1); statements = Plain (Send 10 (Constant Transcript) (more_trees (Constant (Object 1)) no_trees)) ∷ Plain (Send 9 (Constant (Class 24)) (more_trees (Constant (Object 2)) no_trees)) ∷ [] } ∷
+          record { kind = InBlock; class = Class 1; parameters = 0; captured = []; outer = (Some 0); statements = Plain (Send 10 (Constant Transcript) (more_trees (Constant (Object 3)) no_trees)) ∷ [] } ∷ [];
       initializers = record { code = 0; self = Nil; target = None } ∷ [];
       literals = (literal_string (97 ∷ []) ∷ literal_string (120 ∷ []) ∷ literal_string (98 ∷ []) ∷ literal_string (121 ∷ []) ∷ []) ++ trouble_literals;
       trouble_place = 4;
@@ -329,10 +328,10 @@ terminate_text_at_end =
       names = (codes "value") ∷ (codes "value:") ∷ (codes "value:value:") ∷ (61 ∷ []) ∷ (codes "defaultAction") ∷ (codes "isResumable") ∷ (codes "handles:") ∷ (codes "doesNotUnderstand:") ∷ (codes "printString") ∷ (codes "new") ∷ (codes "signal:") ∷ (codes "messageText:") ∷ (codes "ensure:") ∷ [];
       classes = built_in_class_rows;
       methods = [];
-      bodies = 
-        record { kind = InInitializer; class = Class 1; parameters = 0; captured = true ∷ []; outer = None; statements = Plain (Assign (Scoped 0 0) (Send 9 (Constant (Class 24)) no_trees)) ∷ Plain (Send 12 (Block 1) (more_trees (Block 2) no_trees)) ∷ [] } ∷
-        record { kind = InBlock; class = Class 1; parameters = 0; captured = []; outer = (Some 0); statements = Plain (Send 10 (Variable (Scoped 1 0)) (more_trees (Constant (Object 0)) no_trees)) ∷ [] } ∷
-        record { kind = InBlock; class = Class 1; parameters = 0; captured = []; outer = (Some 0); statements = Plain (Send 11 (Variable (Scoped 1 0)) (more_trees (Constant (Object 1)) no_trees)) ∷ [] } ∷ [];
+      bodies =
+          record { kind = InInitializer; class = Class 1; parameters = 0; captured = true ∷ []; outer = None; statements = Plain (Assign (Scoped 0 0) (Send 9 (Constant (Class 24)) no_trees)) ∷ Plain (Send 12 (Block 1) (more_trees (Block 2) no_trees)) ∷ [] } ∷
+          record { kind = InBlock; class = Class 1; parameters = 0; captured = []; outer = (Some 0); statements = Plain (Send 10 (Variable (Scoped 1 0)) (more_trees (Constant (Object 0)) no_trees)) ∷ [] } ∷
+          record { kind = InBlock; class = Class 1; parameters = 0; captured = []; outer = (Some 0); statements = Plain (Send 11 (Variable (Scoped 1 0)) (more_trees (Constant (Object 1)) no_trees)) ∷ [] } ∷ [];
       initializers = record { code = 0; self = Nil; target = None } ∷ [];
       literals = (literal_string (97 ∷ []) ∷ literal_string (98 ∷ []) ∷ []) ++ trouble_literals;
       trouble_place = 2;
@@ -353,11 +352,11 @@ terminate_caught =
       names = (codes "value") ∷ (codes "value:") ∷ (codes "value:value:") ∷ (61 ∷ []) ∷ (codes "defaultAction") ∷ (codes "isResumable") ∷ (codes "handles:") ∷ (codes "doesNotUnderstand:") ∷ (codes "printString") ∷ (codes "signal:") ∷ (codes "ensure:") ∷ (109 ∷ []) ∷ (codes "new") ∷ (codes "show:") ∷ [];
       classes = built_in_class_rows ++ record { name = 81 ∷ []; superclass = Some 0; in_file = true; indexed = NoIndexes; slots = 0; class_slots = 0 } ∷ [];
       methods = record { class = 30; side = OfInstance; selector = 11; code = 0 } ∷ [];
-      bodies = 
-        record { kind = InMethod; class = Class 30; parameters = 0; captured = []; outer = None; statements = Plain (Send 10 (Block 1) (more_trees (Block 2) no_trees)) ∷ [] } ∷
-        record { kind = InBlock; class = Class 30; parameters = 0; captured = []; outer = (Some 0); statements = Plain (Send 9 (Constant (Class 24)) (more_trees (Constant (Object 0)) no_trees)) ∷ [] } ∷
-        record { kind = InBlock; class = Class 30; parameters = 0; captured = []; outer = (Some 0); statements = Return (Constant (Integer (pos 7))) ∷ [] } ∷
-        record { kind = InInitializer; class = Class 1; parameters = 0; captured = []; outer = None; statements = Plain (Send 13 (Constant Transcript) (more_trees (Send 8 (Send 11 (Send 12 (Constant (Class 30)) no_trees) no_trees) no_trees) no_trees)) ∷ Plain (Send 13 (Constant Transcript) (more_trees (Constant (Object 1)) no_trees)) ∷ [] } ∷ [];
+      bodies =
+          record { kind = InMethod; class = Class 30; parameters = 0; captured = []; outer = None; statements = Plain (Send 10 (Block 1) (more_trees (Block 2) no_trees)) ∷ [] } ∷
+          record { kind = InBlock; class = Class 30; parameters = 0; captured = []; outer = (Some 0); statements = Plain (Send 9 (Constant (Class 24)) (more_trees (Constant (Object 0)) no_trees)) ∷ [] } ∷
+          record { kind = InBlock; class = Class 30; parameters = 0; captured = []; outer = (Some 0); statements = Return (Constant (Integer (pos 7))) ∷ [] } ∷
+          record { kind = InInitializer; class = Class 1; parameters = 0; captured = []; outer = None; statements = Plain (Send 13 (Constant Transcript) (more_trees (Send 8 (Send 11 (Send 12 (Constant (Class 30)) no_trees) no_trees) no_trees) no_trees)) ∷ Plain (Send 13 (Constant Transcript) (more_trees (Constant (Object 1)) no_trees)) ∷ [] } ∷ [];
       initializers = record { code = 3; self = Nil; target = None } ∷ [];
       literals = (literal_string (97 ∷ []) ∷ literal_string (codes "on") ∷ []) ++ trouble_literals;
       trouble_place = 2;
@@ -378,12 +377,12 @@ initializer_home =
       names = (codes "value") ∷ (codes "value:") ∷ (codes "value:value:") ∷ (61 ∷ []) ∷ (codes "defaultAction") ∷ (codes "isResumable") ∷ (codes "handles:") ∷ (codes "doesNotUnderstand:") ∷ (codes "printString") ∷ (codes "show:") ∷ (codes "ensure:") ∷ [];
       classes = built_in_class_rows;
       methods = [];
-      bodies = 
-        record { kind = InInitializer; class = Class 1; parameters = 0; captured = []; outer = None; statements = Plain (Send 0 (Block 1) no_trees) ∷ Plain (Constant (Integer (pos 5))) ∷ [] } ∷
-        record { kind = InBlock; class = Class 1; parameters = 0; captured = []; outer = (Some 0); statements = Plain (Send 10 (Block 2) (more_trees (Block 3) no_trees)) ∷ [] } ∷
-        record { kind = InBlock; class = Class 1; parameters = 0; captured = []; outer = (Some 1); statements = Return (Constant (Integer (pos 4))) ∷ [] } ∷
-        record { kind = InBlock; class = Class 1; parameters = 0; captured = []; outer = (Some 1); statements = Plain (Send 9 (Constant Transcript) (more_trees (Constant (Object 0)) no_trees)) ∷ [] } ∷
-        record { kind = InInitializer; class = Class 1; parameters = 0; captured = []; outer = None; statements = Plain (Send 9 (Constant Transcript) (more_trees (Send 8 (Variable (Shared 0)) no_trees) no_trees)) ∷ [] } ∷ [];
+      bodies =
+          record { kind = InInitializer; class = Class 1; parameters = 0; captured = []; outer = None; statements = Plain (Send 0 (Block 1) no_trees) ∷ Plain (Constant (Integer (pos 5))) ∷ [] } ∷
+          record { kind = InBlock; class = Class 1; parameters = 0; captured = []; outer = (Some 0); statements = Plain (Send 10 (Block 2) (more_trees (Block 3) no_trees)) ∷ [] } ∷
+          record { kind = InBlock; class = Class 1; parameters = 0; captured = []; outer = (Some 1); statements = Return (Constant (Integer (pos 4))) ∷ [] } ∷
+          record { kind = InBlock; class = Class 1; parameters = 0; captured = []; outer = (Some 1); statements = Plain (Send 9 (Constant Transcript) (more_trees (Constant (Object 0)) no_trees)) ∷ [] } ∷
+          record { kind = InInitializer; class = Class 1; parameters = 0; captured = []; outer = None; statements = Plain (Send 9 (Constant Transcript) (more_trees (Send 8 (Variable (Shared 0)) no_trees) no_trees)) ∷ [] } ∷ [];
       initializers = record { code = 0; self = Nil; target = (Some 0) } ∷ record { code = 4; self = Nil; target = None } ∷ [];
       literals = (literal_string (101 ∷ []) ∷ []) ++ trouble_literals;
       trouble_place = 1;
@@ -404,13 +403,13 @@ dead_home_resumed =
       names = (codes "value") ∷ (codes "value:") ∷ (codes "value:value:") ∷ (61 ∷ []) ∷ (codes "defaultAction") ∷ (codes "isResumable") ∷ (codes "handles:") ∷ (codes "doesNotUnderstand:") ∷ (codes "printString") ∷ (codes "blk") ∷ (codes "new") ∷ (43 ∷ []) ∷ (codes "resume:") ∷ (codes "on:do:") ∷ (codes "show:") ∷ [];
       classes = built_in_class_rows ++ record { name = 81 ∷ []; superclass = Some 0; in_file = true; indexed = NoIndexes; slots = 0; class_slots = 0 } ∷ [];
       methods = record { class = 24; side = OfInstance; selector = 5; code = 0 } ∷ record { class = 30; side = OfInstance; selector = 9; code = 1 } ∷ [];
-      bodies = 
-        record { kind = InMethod; class = Class 24; parameters = 0; captured = []; outer = None; statements = Return (Constant True) ∷ [] } ∷
-        record { kind = InMethod; class = Class 30; parameters = 0; captured = []; outer = None; statements = Return (Block 2) ∷ [] } ∷
-        record { kind = InBlock; class = Class 30; parameters = 0; captured = []; outer = (Some 1); statements = Return (Constant (Integer (pos 1))) ∷ [] } ∷
-        record { kind = InInitializer; class = Class 1; parameters = 0; captured = true ∷ []; outer = None; statements = Plain (Assign (Scoped 0 0) (Send 9 (Send 10 (Constant (Class 30)) no_trees) no_trees)) ∷ Plain (Send 14 (Constant Transcript) (more_trees (Send 8 (Send 13 (Block 4) (more_trees (Constant (Class 24)) (more_trees (Block 5) no_trees))) no_trees) no_trees)) ∷ [] } ∷
-        record { kind = InBlock; class = Class 1; parameters = 0; captured = []; outer = (Some 3); statements = Plain (Send 11 (Send 0 (Variable (Scoped 1 0)) no_trees) (more_trees (Constant (Integer (pos 1))) no_trees)) ∷ [] } ∷
-        record { kind = InBlock; class = Class 1; parameters = 1; captured = false ∷ []; outer = (Some 3); statements = Plain (Send 12 (Variable (Scoped 0 0)) (more_trees (Constant (Integer (pos 5))) no_trees)) ∷ [] } ∷ [];
+      bodies =
+          record { kind = InMethod; class = Class 24; parameters = 0; captured = []; outer = None; statements = Return (Constant True) ∷ [] } ∷
+          record { kind = InMethod; class = Class 30; parameters = 0; captured = []; outer = None; statements = Return (Block 2) ∷ [] } ∷
+          record { kind = InBlock; class = Class 30; parameters = 0; captured = []; outer = (Some 1); statements = Return (Constant (Integer (pos 1))) ∷ [] } ∷
+          record { kind = InInitializer; class = Class 1; parameters = 0; captured = true ∷ []; outer = None; statements = Plain (Assign (Scoped 0 0) (Send 9 (Send 10 (Constant (Class 30)) no_trees) no_trees)) ∷ Plain (Send 14 (Constant Transcript) (more_trees (Send 8 (Send 13 (Block 4) (more_trees (Constant (Class 24)) (more_trees (Block 5) no_trees))) no_trees) no_trees)) ∷ [] } ∷
+          record { kind = InBlock; class = Class 1; parameters = 0; captured = []; outer = (Some 3); statements = Plain (Send 11 (Send 0 (Variable (Scoped 1 0)) no_trees) (more_trees (Constant (Integer (pos 1))) no_trees)) ∷ [] } ∷
+          record { kind = InBlock; class = Class 1; parameters = 1; captured = false ∷ []; outer = (Some 3); statements = Plain (Send 12 (Variable (Scoped 0 0)) (more_trees (Constant (Integer (pos 5))) no_trees)) ∷ [] } ∷ [];
       initializers = record { code = 3; self = Nil; target = None } ∷ [];
       literals = trouble_literals;
       trouble_place = 0;
@@ -431,14 +430,14 @@ dead_home_recursion =
       names = (codes "value") ∷ (codes "value:") ∷ (codes "value:value:") ∷ (61 ∷ []) ∷ (codes "defaultAction") ∷ (codes "isResumable") ∷ (codes "handles:") ∷ (codes "doesNotUnderstand:") ∷ (codes "printString") ∷ (codes "isNil") ∷ (codes "ifTrue:") ∷ (43 ∷ []) ∷ (codes "m:") ∷ (codes "new") ∷ (codes "resume:") ∷ (codes "on:do:") ∷ (codes "show:") ∷ [];
       classes = built_in_class_rows ++ record { name = 81 ∷ []; superclass = Some 0; in_file = true; indexed = NoIndexes; slots = 0; class_slots = 0 } ∷ [];
       methods = record { class = 24; side = OfInstance; selector = 5; code = 0 } ∷ record { class = 30; side = OfInstance; selector = 12; code = 1 } ∷ [];
-      bodies = 
-        record { kind = InMethod; class = Class 24; parameters = 0; captured = []; outer = None; statements = Return (Constant True) ∷ [] } ∷
-        record { kind = InMethod; class = Class 30; parameters = 1; captured = false ∷ []; outer = None; statements = Plain (Send 10 (Send 9 (Variable (Scoped 0 0)) no_trees) (more_trees (Block 2) no_trees)) ∷ Return (Send 11 (Send 0 (Variable (Scoped 0 0)) no_trees) (more_trees (Constant (Integer (pos 10))) no_trees)) ∷ [] } ∷
-        record { kind = InBlock; class = Class 30; parameters = 0; captured = []; outer = (Some 1); statements = Return (Block 3) ∷ [] } ∷
-        record { kind = InBlock; class = Class 30; parameters = 0; captured = []; outer = (Some 2); statements = Return (Constant (Integer (pos 1))) ∷ [] } ∷
-        record { kind = InInitializer; class = Class 1; parameters = 0; captured = true ∷ []; outer = None; statements = Plain (Assign (Scoped 0 0) (Send 12 (Send 13 (Constant (Class 30)) no_trees) (more_trees (Constant Nil) no_trees))) ∷ Plain (Send 16 (Constant Transcript) (more_trees (Send 8 (Send 15 (Block 5) (more_trees (Constant (Class 24)) (more_trees (Block 6) no_trees))) no_trees) no_trees)) ∷ [] } ∷
-        record { kind = InBlock; class = Class 1; parameters = 0; captured = []; outer = (Some 4); statements = Plain (Send 12 (Send 13 (Constant (Class 30)) no_trees) (more_trees (Variable (Scoped 1 0)) no_trees)) ∷ [] } ∷
-        record { kind = InBlock; class = Class 1; parameters = 1; captured = false ∷ []; outer = (Some 4); statements = Plain (Send 14 (Variable (Scoped 0 0)) (more_trees (Constant (Integer (pos 5))) no_trees)) ∷ [] } ∷ [];
+      bodies =
+          record { kind = InMethod; class = Class 24; parameters = 0; captured = []; outer = None; statements = Return (Constant True) ∷ [] } ∷
+          record { kind = InMethod; class = Class 30; parameters = 1; captured = false ∷ []; outer = None; statements = Plain (Send 10 (Send 9 (Variable (Scoped 0 0)) no_trees) (more_trees (Block 2) no_trees)) ∷ Return (Send 11 (Send 0 (Variable (Scoped 0 0)) no_trees) (more_trees (Constant (Integer (pos 10))) no_trees)) ∷ [] } ∷
+          record { kind = InBlock; class = Class 30; parameters = 0; captured = []; outer = (Some 1); statements = Return (Block 3) ∷ [] } ∷
+          record { kind = InBlock; class = Class 30; parameters = 0; captured = []; outer = (Some 2); statements = Return (Constant (Integer (pos 1))) ∷ [] } ∷
+          record { kind = InInitializer; class = Class 1; parameters = 0; captured = true ∷ []; outer = None; statements = Plain (Assign (Scoped 0 0) (Send 12 (Send 13 (Constant (Class 30)) no_trees) (more_trees (Constant Nil) no_trees))) ∷ Plain (Send 16 (Constant Transcript) (more_trees (Send 8 (Send 15 (Block 5) (more_trees (Constant (Class 24)) (more_trees (Block 6) no_trees))) no_trees) no_trees)) ∷ [] } ∷
+          record { kind = InBlock; class = Class 1; parameters = 0; captured = []; outer = (Some 4); statements = Plain (Send 12 (Send 13 (Constant (Class 30)) no_trees) (more_trees (Variable (Scoped 1 0)) no_trees)) ∷ [] } ∷
+          record { kind = InBlock; class = Class 1; parameters = 1; captured = false ∷ []; outer = (Some 4); statements = Plain (Send 14 (Variable (Scoped 0 0)) (more_trees (Constant (Integer (pos 5))) no_trees)) ∷ [] } ∷ [];
       initializers = record { code = 4; self = Nil; target = None } ∷ [];
       literals = trouble_literals;
       trouble_place = 0;

@@ -1,5 +1,5 @@
 -- What a message does at once: a value, a trouble, a limit, or what the rules and the machine have to begin.
-use Rattle.std.specs.Prelude.{ℕ, ◌+◌, ℤ, Bool, true, false, List, [], ◌∷◌, ◌++◌, Option, Some, None, length, replicate}
+use Rattle.std.specs.Prelude.{ℕ, ◌+◌, ℤ, Bool, true, false, List, [], ◌∷◌, None, length, replicate}
 use Rattle.object_heap.specs.declared.value.Value.{Value}
 use Rattle.object_heap.specs.declared.value.Value.TheVariants.{Nil, True, False, Object}
 use Rattle.object_heap.specs.declared.value.Closure.{Closure}

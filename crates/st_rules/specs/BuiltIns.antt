@@ -1,8 +1,8 @@
 -- The built-in classes by number, and the table of built-in messages (ANSI 5): class, side, selector, and what it does.
-use Rattle.std.specs.Prelude.{ℕ, ◌+◌, Bool, true, false, ◌&&◌, List, [], ◌∷◌, ◌++◌, map, Option, Some, None, nat_eq, codes, if◌then◌else◌}
+use Rattle.std.specs.Prelude.{ℕ, Bool, true, false, ◌&&◌, List, [], ◌∷◌, map, Option, Some, None, nat_eq, codes}
 use Prim.Native.String.{String}
 use Rattle.st_code.specs.Texts.{Text, same_text}
-use Rattle.st_code.specs.Program.{Side, OfInstance, OfClass, OfMeta, same_side, ClassRow, NoIndexes}
+use Rattle.st_code.specs.Program.{Side, OfInstance, OfClass, same_side, ClassRow, NoIndexes}
 use Rattle.st_rules.specs.Messages.{ObjectMessage, ClassMessage, BooleanMessage, NumberMessage, CharacterMessage, TranscriptMessage, StringMessage, SequenceMessage, CollectionMessage, BlockMessage, Control, ExceptionMessage, LoopMessage, Row, Objects, Classes, Booleans, Numbers, Characters, Transcripts, Strings, Sequences, Collections, Blocks, Exceptions, Loops, Slots}
 
 -- a built-in class: its name, the number of its superclass, and how many named slots its instances have

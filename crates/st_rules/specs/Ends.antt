@@ -1,16 +1,16 @@
 -- What the rules and the machine share: charges, variables, and what each activation makes of an outcome that reaches it.
-use Rattle.std.specs.Prelude.{ℕ, ◌+◌, Bool, true, false, List, [], ◌∷◌, ◌++◌, length, get_or, slice_set, Option, Some, None, nat_eq, if◌then◌else◌, codes}
+use Rattle.std.specs.Prelude.{ℕ, ◌+◌, Bool, true, false, List, [], ◌∷◌, length, get_or, slice_set, Option, Some, None, nat_eq, if◌then◌else◌}
 use Rattle.object_heap.specs.declared.value.Value.{Value}
-use Rattle.object_heap.specs.declared.value.Value.TheVariants.{Nil, True, Symbol, Class, Object}
+use Rattle.object_heap.specs.declared.value.Value.TheVariants.{Nil, Symbol, Class, Object}
 use Rattle.object_heap.specs.declared.value.Closure.{Closure}
 use Rattle.object_heap.specs.declared.trouble.Trouble.{Trouble}
 use Rattle.object_heap.specs.Troubles.{place_of}
 use Rattle.object_heap.specs.Store.{Store, with_slot, block_added}
-use Rattle.st_code.specs.Program.{Program, Place, Scoped, Slot, ClassSlot, Shared, Kind, InMethod, InBlock, InInitializer, Body, ClassRow, Initializer, body_at, class_at, number_of}
+use Rattle.st_code.specs.Program.{Program, Place, Scoped, Slot, ClassSlot, Shared, Kind, InMethod, InBlock, InInitializer, Initializer, body_at, class_at}
 use Rattle.st_rules.specs.Events.{Event}
-use Rattle.st_rules.specs.State.{State, Entry, Env, Target, Home, Protected, Retry, RetryWith, Resume, Resignal, Terminate, Limit, Outcome, Answer, Go, Stop, Turn, Mark, Frame, with_store, told, scoped_variable, with_scoped_variable, first_variables, with_scope, is_at_signal}
+use Rattle.st_rules.specs.State.{State, Entry, Env, Target, Home, Protected, Retry, RetryWith, Resume, Resignal, Limit, Outcome, Answer, Go, Stop, Turn, Mark, Frame, with_store, told, scoped_variable, with_scoped_variable, first_variables, with_scope, is_at_signal}
 use Rattle.st_rules.specs.BuiltIns.{array_class, block_class, message_class}
-use Rattle.st_rules.specs.Actions.{next_object, with_new}
+use Rattle.st_rules.specs.Actions.{with_new}
 use Rattle.st_rules.specs.Kinds.{slot_of}
 
 -- an outcome and a state, or none at this index

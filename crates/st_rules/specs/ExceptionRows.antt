@@ -1,16 +1,16 @@
 -- Messages of Blocks, of exceptions, their classes and ExceptionSets (ANSI 5.4.3, 5.5).
-use Rattle.std.specs.Prelude.{ℕ, ◌+◌, ℤ, pos, Bool, true, false, ◌&&◌, List, [], ◌∷◌, ◌++◌, length, Option, Some, None, nat_eq, if◌then◌else◌, codes}
+use Rattle.std.specs.Prelude.{ℕ, pos, ◌&&◌, List, [], ◌∷◌, ◌++◌, length, Option, Some, None, nat_eq, if◌then◌else◌, codes}
 use Rattle.object_heap.specs.declared.value.Value.{Value}
 use Rattle.object_heap.specs.declared.value.Value.TheVariants.{Nil, Integer, Class, Object}
 use Rattle.object_heap.specs.declared.value.Closure.{Closure}
 use Rattle.object_heap.specs.declared.trouble.Trouble.TheVariants.{WrongNumberOfArguments, CollectionExpected, ExceptionSelectorExpected, ExceptionExpected}
 use Rattle.object_heap.specs.Store.{Store, object_at, closure_at, with_slot}
-use Rattle.st_code.specs.Program.{Program, Body, ClassRow, body_at, class_at}
+use Rattle.st_code.specs.Program.{Program, body_at, class_at}
 use Rattle.st_rules.specs.BuiltIns.{array_class, exception_set_class}
-use Rattle.st_rules.specs.Messages.{BlockMessage, Control, ExceptionMessage}
+use Rattle.st_rules.specs.Messages.{BlockMessage, ExceptionMessage}
 use Rattle.st_rules.specs.Lookup.{is_plain, fits, is_exception}
-use Rattle.st_rules.specs.Actions.{Action, Gives, Changes, Makes, Writes, Fails, Activates, Guards, Ensures, Curtails, Raises, RaisesNew, Controls, Terminates, boolean, first, second, makes_slots, makes_string, makes_blank}
-use Rattle.st_rules.specs.Kinds.{same_value, is_a, slots_of, slot_of, exception_text}
+use Rattle.st_rules.specs.Actions.{Action, Gives, Changes, Writes, Fails, Activates, Guards, Ensures, Curtails, Raises, RaisesNew, Controls, Terminates, boolean, first, second, makes_slots, makes_string, makes_blank}
+use Rattle.st_rules.specs.Kinds.{is_a, slots_of, slot_of, exception_text}
 
 -- ---- Blocks
 

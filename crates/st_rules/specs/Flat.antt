@@ -1,5 +1,5 @@
 -- The flat machine: a body keeps a code number, a position and operands, of which the variables that no block names are the first; the others stand in a scope that only a body with such variables has.
-use Rattle.std.specs.Prelude.{ℕ, zero, suc, ◌+◌, ◌-◌, Bool, true, false, List, [], ◌∷◌, ◌++◌, map, reverse, length, get_or, slice_set, slice_get, replicate, Option, Some, None, nat_lt, if◌then◌else◌}
+use Rattle.std.specs.Prelude.{ℕ, zero, suc, ◌+◌, Bool, true, false, List, [], ◌∷◌, reverse, length, get_or, slice_set, slice_get, Option, Some, None, nat_lt, if◌then◌else◌}
 use Rattle.object_heap.specs.declared.value.Value.{Value}
 use Rattle.object_heap.specs.declared.value.Value.TheVariants.{Nil}
 use Rattle.object_heap.specs.declared.trouble.Trouble.TheVariants.{HomeHasReturned}
@@ -10,14 +10,14 @@ use Rattle.st_code.specs.declared.instruction.Instruction.{Instruction}
 use Rattle.st_code.specs.declared.instruction.Instruction.TheVariants.{PushConstant, PushSelf, PushVariable, Store as StoreVariable, Pop, Dup, Send, SuperSend, MakeBlock, MethodReturn, HomeReturn, BlockEnd}
 use Rattle.st_code.specs.declared.instruction.CodeKind.TheVariants.{Block as BlockCode}
 use Rattle.st_code.specs.Compiled.{Compiled, constant_value, any_captured}
-use Rattle.st_code.specs.Program.{Program, Body, body_at}
-use Rattle.st_rules.specs.State.{State, Env, Home, CellLimit, Outcome, Answer, Go, Stop, Mark, BodyMark, with_store, used, first_variables, scoped_variable, with_scoped_variable, stands}
+use Rattle.st_code.specs.Program.{Program}
+use Rattle.st_rules.specs.State.{State, Env, Home, CellLimit, Answer, Go, BodyMark, with_store, used, first_variables, scoped_variable, with_scoped_variable, stands}
 use Rattle.st_rules.specs.BuiltIns.{block_class}
 use Rattle.st_rules.specs.Actions.{next_object}
 use Rattle.st_rules.specs.Kinds.{slot_of}
 use Rattle.st_rules.specs.Ends.{charged, Opening, shared, first_class_slot, with_self_slot}
 use Rattle.st_rules.specs.Rules.{SendTo, SuperTo, fail}
-use Rattle.st_rules.specs.Machine.{Act, BodyAct, Leaving, Mach, Run, Settle, Begin, Over, Bodies, marks, stopped}
+use Rattle.st_rules.specs.Machine.{Act, BodyAct, Leaving, Mach, Run, Settle, Begin, Bodies, marks, stopped}
 
 -- a body: its code, the position of its next instruction or of the one that it waits at, its operands from the last on, self, the class that it is written in, its number, that of its home, the innermost scope around it, and its environment
 pub record FlatBody : Type 0 where

@@ -1,13 +1,13 @@
 -- What kind of value an argument is, the elements of collections, and how values are written.
-use Rattle.std.specs.Prelude.{ℕ, zero, suc, ◌+◌, ◌-◌, ◌*◌, ◌/◌, ℤ, pos, negsuc, ◌+ℤ◌, ◌-ℤ◌, ◌*ℤ◌, neg_ℤ, nat_abs, int_le, int_lt, Bool, true, false, ◌&&◌, ◌||◌, List, [], ◌∷◌, ◌++◌, map, length, get_or, take, drop, Option, Some, None, nat_eq, nat_le, nat_lt, if◌then◌else◌, codes}
+use Rattle.std.specs.Prelude.{ℕ, zero, suc, ◌+◌, ◌-◌, ◌*◌, ◌/◌, ℤ, pos, negsuc, ◌+ℤ◌, ◌-ℤ◌, ◌*ℤ◌, int_lt, Bool, true, false, ◌&&◌, ◌||◌, List, [], ◌∷◌, ◌++◌, length, get_or, Option, Some, None, nat_eq, if◌then◌else◌, codes}
 use Rattle.std.specs.Fmt.{signed_decimal, digits}
 use Rattle.object_heap.specs.declared.value.Value.{Value}
 use Rattle.object_heap.specs.declared.value.Value.TheVariants.{Nil, True, False, Integer, Character, Symbol, Class, Meta, Transcript, Object}
 use Rattle.object_heap.specs.Store.{Store, object_at}
 use Rattle.st_code.specs.Texts.{Text, quoted, symbol_text, with_article}
-use Rattle.st_code.specs.Program.{Program, ClassRow, class_at, name_at, OfInstance}
+use Rattle.st_code.specs.Program.{Program, class_at, name_at}
 use Rattle.st_rules.specs.BuiltIns.{string_class, symbol_class, fraction_class, array_class, byte_array_class, ordered_collection_class, set_class, dictionary_class, interval_class, message_not_understood_class, message_class}
-use Rattle.st_rules.specs.Lookup.{Level, level_of, class_of, class_text, inherits}
+use Rattle.st_rules.specs.Lookup.{class_of, class_text, inherits}
 
 abbrev same_integer : ℤ → ℤ → Bool
 same_integer (pos a) (pos b) = nat_eq a b

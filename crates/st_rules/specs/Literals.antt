@@ -1,5 +1,5 @@
 -- The objects that stand before a run begins: the literals of the program, and behind them the texts of troubles. They cost nothing and are read-only.
-use Rattle.std.specs.Prelude.{List, [], ◌∷◌, map, length, true, None}
+use Rattle.std.specs.Prelude.{List, [], map, length, true, None}
 use Rattle.object_heap.specs.declared.value.Value.{Value}
 use Rattle.object_heap.specs.Store.{Object}
 use Rattle.object_heap.specs.Troubles.{trouble_texts}

@@ -1,13 +1,13 @@
 -- Which method or built-in message a receiver finds for a selector (ANSI 3.3), and which exceptions a selector of `on:do:` fits.
-use Rattle.std.specs.Prelude.{ℕ, zero, suc, Bool, true, false, ◌&&◌, List, [], ◌∷◌, ◌++◌, map, drop, Option, Some, None, nat_eq, is_some, if◌then◌else◌, codes}
+use Rattle.std.specs.Prelude.{ℕ, zero, suc, Bool, true, false, ◌&&◌, List, [], ◌∷◌, ◌++◌, map, drop, Option, Some, None, nat_eq, codes}
 use Rattle.std.specs.Option.{option_map}
 use Rattle.object_heap.specs.declared.value.Value.{Value}
 use Rattle.object_heap.specs.declared.value.Value.TheVariants.{Nil, True, False, Integer, Character, Symbol, Class, Meta, Transcript, Object}
 use Rattle.object_heap.specs.Store.{Store, object_at}
 use Rattle.st_code.specs.Texts.{Text}
-use Rattle.st_code.specs.Program.{Program, ClassRow, MethodRow, Side, OfInstance, OfClass, OfMeta, same_side, class_at, name_at, number_of}
+use Rattle.st_code.specs.Program.{Program, MethodRow, Side, OfInstance, OfClass, OfMeta, same_side, class_at, name_at, number_of}
 use Rattle.st_rules.specs.Messages.{Row}
-use Rattle.st_rules.specs.BuiltIns.{row_at, object_class, undefined_object_class, true_class, false_class, integer_class, character_class, symbol_class, class_class, metaclass_class, transcript_writer_class, exception_class, exception_set_class}
+use Rattle.st_rules.specs.BuiltIns.{row_at, object_class, undefined_object_class, true_class, false_class, integer_class, character_class, symbol_class, class_class, metaclass_class, transcript_writer_class, exception_class}
 
 -- a side of a class, where methods are looked up
 pub record Level : Type 0 where
@@ -51,9 +51,10 @@ inherits p class ancestor = holds (superclasses p class) ancestor
 -- the levels that lookup visits, from this one on
 unfoldable pub walk : Program → Level → List Level
 walk p l = elim l.side [
-    OfInstance ↦ map (level OfInstance) (superclasses p l.class)
+  | OfInstance ↦ map (level OfInstance) (superclasses p l.class)
   | OfClass ↦ map (level OfClass) (superclasses p l.class) ++ level OfInstance class_class ∷ level OfInstance object_class ∷ []
-  | OfMeta ↦ level OfInstance metaclass_class ∷ level OfInstance object_class ∷ [] ]
+  | OfMeta ↦ level OfInstance metaclass_class ∷ level OfInstance object_class ∷ []
+]
 
 -- a method of the file, by the number of its body, or a built-in message
 pub data Found : Type 0 where
@@ -71,8 +72,9 @@ method_at (m ∷ methods) l selector = elim (is_method l selector m) [ true ↦ 
 -- what this level has for a selector
 unfoldable pub found_at : Program → Level → ℕ → Option Found
 found_at p l selector = elim (method_at p.methods l selector) [
-    Some code ↦ Some (UserMethod code)
-  | None ↦ option_map BuiltIn (row_at l.class l.side (name_at p selector)) ]
+  | Some code ↦ Some (UserMethod code)
+  | None ↦ option_map BuiltIn (row_at l.class l.side (name_at p selector))
+]
 
 -- what the first of these levels that has the selector has for it
 unfoldable pub found_in : Program → List Level → ℕ → Option Found

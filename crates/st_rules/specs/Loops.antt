@@ -1,17 +1,17 @@
 -- The loops, visit by visit: each is at an index, asks for the size as it is now, and goes on with the value of the visit before (ANSI 5.4.3, 5.7).
-use Rattle.std.specs.Prelude.{ℕ, zero, suc, ◌+◌, ◌-◌, ◌*◌, min, ℤ, pos, negsuc, ◌+ℤ◌, int_lt, int_le, Bool, true, false, not, ◌&&◌, ◌||◌, List, [], ◌∷◌, ◌++◌, map, length, get_or, remove, Option, Some, None, nat_eq, nat_le, if◌then◌else◌}
+use Rattle.std.specs.Prelude.{ℕ, ◌+◌, ◌-◌, ◌*◌, min, ℤ, pos, negsuc, ◌+ℤ◌, int_lt, int_le, Bool, true, false, not, ◌&&◌, ◌||◌, List, [], ◌∷◌, ◌++◌, map, length, get_or, nat_eq, nat_le, if◌then◌else◌}
 use Rattle.object_heap.specs.declared.value.Value.{Value}
 use Rattle.object_heap.specs.declared.value.Value.TheVariants.{Nil, True, False, Integer, Object}
 use Rattle.object_heap.specs.declared.trouble.Trouble.TheVariants.{NumberExpected, StepIsZero}
-use Rattle.object_heap.specs.Store.{Store, object_at, object_added, with_slot}
+use Rattle.object_heap.specs.Store.{Store, object_at, with_slot}
 use Rattle.object_heap.specs.Charges.{object_charge}
 use Rattle.st_code.specs.Program.{Program}
 use Rattle.st_rules.specs.BuiltIns.{string_class, array_class, ordered_collection_class, set_class, dictionary_class}
 use Rattle.st_rules.specs.Messages.{LoopMessage}
-use Rattle.st_rules.specs.Actions.{Action, Fails, Iterates, LoopState, Visit, Applies, Compares, Finishes, Lacks, Charges, boolean, first, second, third, new_object, next_object, with_new}
+use Rattle.st_rules.specs.Actions.{Action, Fails, Iterates, LoopState, Visit, Applies, Compares, Finishes, Lacks, Charges, boolean, first, second, third, next_object, with_new}
 use Rattle.st_rules.specs.Kinds.{same_value, is_true, is_a, slots_of, size_of, element, key, integer_of, natural_of, species}
 use Rattle.st_rules.specs.TextRows.{byte_of}
-use Rattle.st_rules.specs.SequenceRows.{Grown, with_elements, without_element}
+use Rattle.st_rules.specs.SequenceRows.{with_elements, without_element}
 
 -- ---- where a loop is, and what it has
 
@@ -252,8 +252,9 @@ with_made p s l = let s' = with_new ordered_collection_class [] [] s in Charges 
 
 abbrev same_kind : Store → LoopState → Bool
 same_kind s l = elim l.receiver [
-    Object n ↦ is_a s (object_at n s).class (first l.arguments) && nat_eq (length (object_at n s).slots) (length (slots_of s (first l.arguments)))
-  | _ ↦ false ]
+  | Object n ↦ is_a s (object_at n s).class (first l.arguments) && nat_eq (length (object_at n s).slots) (length (slots_of s (first l.arguments)))
+  | _ ↦ false
+]
 
 unfoldable pub first_of_message : Program → Store → LoopMessage → LoopState → Visit
 first_of_message p s LoopMessage.Collect l = with_made p s l

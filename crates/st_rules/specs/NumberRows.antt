@@ -1,10 +1,10 @@
 -- Messages of Integers and Fractions (ANSI 5.6).
-use Rattle.std.specs.Prelude.{ℕ, ◌+◌, ◌*◌, ◌/◌, ◌%◌, ℤ, pos, negsuc, ◌+ℤ◌, ◌-ℤ◌, ◌*ℤ◌, neg_ℤ, nat_abs, int_div, int_rem, int_lt, int_le, Bool, true, false, not, ◌&&◌, List, [], ◌∷◌, Option, Some, None, nat_eq, nat_le, if◌then◌else◌}
+use Rattle.std.specs.Prelude.{ℕ, ◌+◌, ◌*◌, ◌/◌, ◌%◌, ℤ, pos, negsuc, nat_abs, int_div, int_rem, Bool, true, false, ◌&&◌, List, [], ◌∷◌, Option, Some, None, nat_eq, nat_le, if◌then◌else◌}
 use Rattle.std.specs.Fmt.{digits_onto}
 use Rattle.object_heap.specs.declared.value.Value.{Value}
-use Rattle.object_heap.specs.declared.value.Value.TheVariants.{Nil, Integer, Object}
+use Rattle.object_heap.specs.declared.value.Value.TheVariants.{Integer, Object}
 use Rattle.object_heap.specs.declared.trouble.Trouble.TheVariants.{NumberExpected, StepIsZero, BadRadix}
-use Rattle.object_heap.specs.Store.{Store, object_at}
+use Rattle.object_heap.specs.Store.{Store}
 use Rattle.st_code.specs.Program.{Program}
 use Rattle.st_rules.specs.BuiltIns.{fraction_class, interval_class}
 use Rattle.st_rules.specs.Messages.{NumberMessage}

@@ -1,5 +1,5 @@
 -- Exact arithmetic of Integers and Fractions (ANSI 5.6): greatest common divisors, floors, bits, and lowest terms.
-use Rattle.std.specs.Prelude.{ℕ, zero, suc, ◌+◌, ◌-◌, ◌*◌, ◌/◌, ◌%◌, ◌^◌, min, ℤ, pos, negsuc, ◌+ℤ◌, ◌-ℤ◌, ◌*ℤ◌, neg_ℤ, nat_abs, int_lt, int_le, int_div, int_rem, bit_and, bit_or, bit_xor, Bool, true, false, ◌&&◌, List, [], ◌∷◌, nat_eq, nat_lt, if◌then◌else◌}
+use Rattle.std.specs.Prelude.{ℕ, zero, suc, ◌-◌, ◌*◌, ◌/◌, ◌%◌, ◌^◌, min, ℤ, pos, negsuc, ◌+ℤ◌, ◌-ℤ◌, ◌*ℤ◌, neg_ℤ, nat_abs, int_lt, int_le, int_div, bit_and, bit_or, bit_xor, Bool, true, false, nat_eq, nat_lt}
 
 abbrev gcd_in : ℕ → ℕ → ℕ → ℕ
 gcd_in zero a b = a

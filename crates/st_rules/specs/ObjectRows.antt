@@ -1,12 +1,12 @@
 -- Messages of every object, of classes and of Booleans (ANSI 5.3.1, 5.3.3).
-use Rattle.std.specs.Prelude.{ℕ, ◌+◌, ◌-◌, ℤ, pos, negsuc, Bool, true, false, not, ◌&&◌, ◌||◌, List, [], ◌∷◌, ◌++◌, length, get_or, Option, Some, None, nat_eq, nat_le, is_some, if◌then◌else◌, codes}
+use Rattle.std.specs.Prelude.{ℕ, ◌+◌, ◌-◌, ℤ, pos, negsuc, Bool, true, false, not, ◌&&◌, ◌||◌, List, [], ◌∷◌, length, get_or, Option, Some, None, nat_eq, nat_le, is_some, if◌then◌else◌, codes}
 use Rattle.object_heap.specs.declared.value.Value.{Value}
 use Rattle.object_heap.specs.declared.value.Value.TheVariants.{Nil, True, False, Integer, Character, Symbol, Class, Meta, Object}
 use Rattle.object_heap.specs.declared.trouble.Trouble.TheVariants.{WrongNumberOfArguments, IndexOutOfRange, NumberExpected, BooleanExpected, ByteExpected, CollectionExpected, SymbolExpected, NotIndexed, CannotBeInstantiated, SubclassResponsibility}
-use Rattle.object_heap.specs.Store.{Store, Object as HeapObject, object_at, object_set, object_added, with_slots, with_bytes, with_slot, with_byte}
+use Rattle.object_heap.specs.Store.{Store, Object as HeapObject, object_at, object_added, with_slot, with_byte}
 use Rattle.object_heap.specs.Charges.{object_charge}
 use Rattle.st_code.specs.Texts.{arity}
-use Rattle.st_code.specs.Program.{Program, ClassRow, Indexed, NoIndexes, ByObject, ByByte, Side, OfInstance, OfClass, OfMeta, same_side, class_at, name_at, number_of}
+use Rattle.st_code.specs.Program.{Program, Indexed, NoIndexes, ByObject, ByByte, Side, OfInstance, OfClass, same_side, class_at, name_at, number_of}
 use Rattle.st_rules.specs.BuiltIns.{array_class, association_class, error_class, message_not_understood_class}
 use Rattle.st_rules.specs.Messages.{ObjectMessage, ClassMessage, BooleanMessage}
 use Rattle.st_rules.specs.Lookup.{Level, level_of, walk, lookup, class_of}
@@ -30,8 +30,9 @@ responds_to p s r v = Fails SymbolExpected
 -- a copy is one level deep and never read-only; that of a block has the same closure
 abbrev copied : Store → HeapObject → Action
 copied s o = elim o.closure [
-    None ↦ Makes (object_charge (length o.slots) (length o.bytes)) (object_added (record { class = o.class; slots = o.slots; bytes = o.bytes; capacity = length o.slots; read_only = false; closure = None }) s) (next_object s)
-  | Some number ↦ Makes 2 (object_added (record { class = o.class; slots = []; bytes = []; capacity = 0; read_only = false; closure = Some number }) s) (next_object s) ]
+  | None ↦ Makes (object_charge (length o.slots) (length o.bytes)) (object_added (record { class = o.class; slots = o.slots; bytes = o.bytes; capacity = length o.slots; read_only = false; closure = None }) s) (next_object s)
+  | Some number ↦ Makes 2 (object_added (record { class = o.class; slots = []; bytes = []; capacity = 0; read_only = false; closure = Some number }) s) (next_object s)
+]
 
 abbrev copy : Store → Value → Action
 copy s (Object number) = copied s (object_at number s)
@@ -62,15 +63,17 @@ indexed v size act = Fails NumberExpected
 
 abbrev index_size : Program → HeapObject → Action
 index_size p o = elim (index_kind p o.class) [
-    NoIndexes ↦ Fails NotIndexed
+  | NoIndexes ↦ Fails NotIndexed
   | ByObject ↦ Gives (Integer (pos (length o.slots - (class_at p o.class).slots)))
-  | ByByte ↦ Gives (Integer (pos (length o.bytes))) ]
+  | ByByte ↦ Gives (Integer (pos (length o.bytes)))
+]
 
 abbrev index_read : Program → HeapObject → Value → Action
 index_read p o at = elim (index_kind p o.class) [
-    NoIndexes ↦ Fails NotIndexed
+  | NoIndexes ↦ Fails NotIndexed
   | ByObject ↦ let named = (class_at p o.class).slots in indexed at (length o.slots - named) (λ i. Gives (get_or o.slots (named + i) Nil))
-  | ByByte ↦ indexed at (length o.bytes) (λ i. Gives (Integer (pos (get_or o.bytes i 0)))) ]
+  | ByByte ↦ indexed at (length o.bytes) (λ i. Gives (Integer (pos (get_or o.bytes i 0))))
+]
 
 abbrev pub byte_value : Value → Option ℕ
 byte_value (Integer (pos n)) = if nat_le n 255 then Some n else None
@@ -81,9 +84,10 @@ byte_put s number i v = elim (byte_value v) [ Some byte ↦ Changes (with_byte n
 
 abbrev index_written : Program → Store → ℕ → HeapObject → Value → Value → Action
 index_written p s number o at v = elim (index_kind p o.class) [
-    NoIndexes ↦ Fails NotIndexed
+  | NoIndexes ↦ Fails NotIndexed
   | ByObject ↦ let named = (class_at p o.class).slots in indexed at (length o.slots - named) (λ i. Changes (with_slot number (named + i) v s) v)
-  | ByByte ↦ indexed at (length o.bytes) (λ i. byte_put s number i v) ]
+  | ByByte ↦ indexed at (length o.bytes) (λ i. byte_put s number i v)
+]
 
 abbrev of_object : Value → (ℕ → Action) → Action
 of_object (Object number) act = act number
@@ -149,9 +153,10 @@ new_of p s class = if (class_at p class).in_file then makes_blank class (class_a
 
 abbrev new_sized : Program → Store → ℕ → Value → Action
 new_sized p s class v = if (class_at p class).in_file then elim (class_at p class).indexed [
-    NoIndexes ↦ Fails NotIndexed
+  | NoIndexes ↦ Fails NotIndexed
   | ByObject ↦ sized v (λ n. makes_blank class ((class_at p class).slots + n) 0 s)
-  | ByByte ↦ sized v (λ n. makes_blank class (class_at p class).slots n s) ] else Fails CannotBeInstantiated
+  | ByByte ↦ sized v (λ n. makes_blank class (class_at p class).slots n s)
+] else Fails CannotBeInstantiated
 
 abbrev class_action_at : Program → Store → ClassMessage → ℕ → List Value → Action
 class_action_at p s ClassMessage.Name class args = makes_string (class_at p class).name s

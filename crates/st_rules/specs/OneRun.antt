@@ -2,7 +2,7 @@
 use Rattle.std.specs.Prelude.{◌≡◌, ℕ, ◌≤◌, List}
 use Rattle.st_code.specs.Program.{Program}
 use Rattle.st_rules.specs.State.{State, Outcome, Mark}
-use Rattle.st_rules.specs.Ends.{Result, Yields}
+use Rattle.st_rules.specs.Ends.{Yields}
 use Rattle.st_rules.specs.Rules.{Use, at_index}
 use Rattle.st_rules.specs.Runs.{Ending, Runs}
 

@@ -1,10 +1,10 @@
 -- The run of a program by the rules: its initializers in file order, and the ending.
-use Rattle.std.specs.Prelude.{◌≡◌, ℕ, List, [], ◌∷◌, length, replicate, Option, Some, None}
+use Rattle.std.specs.Prelude.{◌≡◌, ℕ, List, [], ◌∷◌, replicate, Option, Some, None}
 use Rattle.object_heap.specs.declared.value.Value.{Value}
 use Rattle.object_heap.specs.declared.value.Value.TheVariants.{Nil}
-use Rattle.st_code.specs.Program.{Program, Body, Initializer, body_at, Shared}
-use Rattle.st_rules.specs.State.{State, Target, Terminate, Limit, DepthLimit, CellLimit, Outcome, Answer, Go, Stop}
-use Rattle.st_rules.specs.Ends.{Result, Yields, charged, then_value, stop, initializer_opening}
+use Rattle.st_code.specs.Program.{Program, Initializer}
+use Rattle.st_rules.specs.State.{State, Target, Terminate, Limit, Outcome, Answer, Go, Stop}
+use Rattle.st_rules.specs.Ends.{Result, Yields, then_value, initializer_opening}
 use Rattle.st_rules.specs.Rules.{Next, opened, at_index}
 use Rattle.std.specs.Prelude.{slice_set}
 

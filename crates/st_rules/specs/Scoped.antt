@@ -1,15 +1,15 @@
 -- The scoped machine: a body keeps its frame, its operands and the rest of its code, and all its variables stand in its scope.
-use Rattle.std.specs.Prelude.{ℕ, zero, suc, Bool, true, false, List, [], ◌∷◌, Option, Some, None}
+use Rattle.std.specs.Prelude.{ℕ, zero, suc, Bool, true, false, List, [], ◌∷◌}
 use Rattle.object_heap.specs.declared.value.Value.{Value}
 use Rattle.object_heap.specs.declared.trouble.Trouble.TheVariants.{HomeHasReturned}
 use Rattle.object_heap.specs.Store.{Store}
 use Rattle.st_code.specs.Program.{Program, body_at}
-use Rattle.st_rules.specs.State.{State, Env, Home, CellLimit, StepLimit, Outcome, Answer, Go, Stop, Mark, BodyMark, Frame, with_store, used, stands}
+use Rattle.st_rules.specs.State.{State, Env, Home, CellLimit, Answer, Go, BodyMark, Frame, with_store, used, stands}
 use Rattle.st_rules.specs.Actions.{next_object}
-use Rattle.st_rules.specs.Ends.{charged, read_place, write_place, with_block, Opening, frame_of, with_opened, onto}
+use Rattle.st_rules.specs.Ends.{charged, read_place, write_place, with_block, Opening, frame_of, with_opened}
 use Rattle.st_rules.specs.Rules.{SendTo, SuperTo, fail}
 use Rattle.st_code.specs.Code.{Instr, PushConstant, PushSelf, Pop, Dup, PushVariable, Store as StoreVariable, SendMessage, SendSuper, MakeBlock, MethodReturn, HomeReturn, BlockEnd, code_body}
-use Rattle.st_rules.specs.Machine.{Act, BodyAct, Leaving, Mach, Run, Settle, Begin, Over, Stuck, marks, Bodies, stopped}
+use Rattle.st_rules.specs.Machine.{Act, BodyAct, Leaving, Mach, Run, Settle, Begin, Stuck, marks, Bodies, stopped}
 
 -- a body: its frame, its environment, its operands from the last on, and the code that is left
 pub record ScopedBody : Type 0 where

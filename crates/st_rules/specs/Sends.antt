@@ -1,5 +1,5 @@
 -- What a send does at once, once its step is charged (ANSI 3.3).
-use Rattle.std.specs.Prelude.{ℕ, List, [], ◌∷◌, Option, Some, None}
+use Rattle.std.specs.Prelude.{ℕ, List, Option, Some, None}
 use Rattle.object_heap.specs.declared.value.Value.{Value}
 use Rattle.object_heap.specs.Store.{Store}
 use Rattle.st_code.specs.Program.{Program}

@@ -1,14 +1,14 @@
 -- Messages of Strings, Symbols, Arrays, ByteArrays, OrderedCollections, Intervals, Sets, Dictionaries and Associations that act at once (ANSI 5.7).
-use Rattle.std.specs.Prelude.{ℕ, zero, suc, ◌+◌, ◌-◌, ◌*◌, ◌/◌, max, ℤ, pos, negsuc, int_lt, Bool, true, false, not, ◌&&◌, ◌||◌, List, [], ◌∷◌, ◌++◌, map, reverse, length, get_or, take, drop, replicate, insert, remove, Option, Some, None, nat_eq, nat_le, nat_lt, if◌then◌else◌}
+use Rattle.std.specs.Prelude.{ℕ, zero, suc, ◌+◌, ◌-◌, ◌*◌, ◌/◌, max, ℤ, pos, int_lt, Bool, true, false, not, ◌&&◌, List, [], ◌∷◌, ◌++◌, map, reverse, length, get_or, replicate, insert, remove, Option, Some, None, nat_eq, nat_le, if◌then◌else◌}
 use Rattle.object_heap.specs.declared.value.Value.{Value}
-use Rattle.object_heap.specs.declared.value.Value.TheVariants.{Nil, Integer, Character, Symbol, Class, Object}
+use Rattle.object_heap.specs.declared.value.Value.TheVariants.{Nil, Integer, Character, Class, Object}
 use Rattle.object_heap.specs.declared.trouble.Trouble.TheVariants.{IndexOutOfRange, NumberExpected, CharacterExpected, ByteExpected, CollectionExpected, LiteralIsReadOnly, CollectionIsEmpty}
 use Rattle.object_heap.specs.declared.trouble.Trouble.{Trouble}
 use Rattle.object_heap.specs.Store.{Store, Object as HeapObject, object_at, object_set, with_slot, with_byte}
 use Rattle.st_code.specs.Program.{Program}
 use Rattle.st_rules.specs.BuiltIns.{string_class, byte_array_class, array_class, ordered_collection_class, dictionary_class, association_class}
 use Rattle.st_rules.specs.Messages.{SequenceMessage, CollectionMessage}
-use Rattle.st_rules.specs.Actions.{Action, Gives, Changes, Makes, Fails, boolean, first, second, next_object, makes_slots, makes_bytes}
+use Rattle.st_rules.specs.Actions.{Action, Gives, Changes, Makes, Fails, boolean, first, second, makes_slots, makes_bytes}
 use Rattle.st_rules.specs.Kinds.{size_of, element, some_elements, elements, is_sequence, is_collection, species, integer_of, natural_of}
 use Rattle.st_rules.specs.ObjectRows.{indexed, index_in, byte_value, byte_put, sized}
 use Rattle.st_rules.specs.TextRows.{with_character, byte_of}
@@ -60,8 +60,9 @@ element_trouble class items =
 
 abbrev join : Program → Store → Value → Value → Action
 join p s r v = if is_sequence s v then elim (element_trouble (species s r) (elements p s v)) [
-    Some trouble ↦ Fails trouble
-  | None ↦ makes_sequence (species s r) (elements p s r ++ elements p s v) s ] else Fails CollectionExpected
+  | Some trouble ↦ Fails trouble
+  | None ↦ makes_sequence (species s r) (elements p s r ++ elements p s v) s
+] else Fails CollectionExpected
 
 abbrev is_index : ℕ → ℤ → Bool
 is_index size i = elim (index_in size i) [ Some n ↦ true | None ↦ false ]
@@ -70,8 +71,8 @@ abbrev copy_between : Program → Store → Value → ℤ → ℤ → Action
 copy_between p s r i j =
     if int_lt j i then makes_sequence (species s r) [] s else
     (if is_index (size_of p s r) i && is_index (size_of p s r) j
-     then makes_sequence (species s r) (some_elements p s r (natural_of i) (natural_of j + 1 - natural_of i)) s
-     else Fails IndexOutOfRange)
+    then makes_sequence (species s r) (some_elements p s r (natural_of i) (natural_of j + 1 - natural_of i)) s
+    else Fails IndexOutOfRange)
 
 abbrev copy_from_to : Program → Store → Value → Value → Value → Action
 copy_from_to p s r (Integer i) (Integer j) = copy_between p s r i j
@@ -101,8 +102,9 @@ pub record Room : Type 0 where
 abbrev grown_in : ℕ → ℕ → ℕ → ℕ → Room
 grown_in zero size room cells = record { elements = room; cells = cells }
 grown_in (suc n) size room cells = elim (nat_le size room) [
-    true ↦ record { elements = room; cells = cells }
-  | false ↦ let more = max 4 (2 * room) in grown_in n size more (cells + more) ]
+  | true ↦ record { elements = room; cells = cells }
+  | false ↦ let more = max 4 (2 * room) in grown_in n size more (cells + more)
+]
 
 -- the room that so many elements ask for where there is this much
 unfoldable pub grown_to : (size room : ℕ) → Room

@@ -1,14 +1,14 @@
 -- Messages of Characters, Strings, Symbols and the Transcript (ANSI 5.4, 5.7.10, 5.10).
-use Rattle.std.specs.Prelude.{ℕ, ◌+◌, ◌-◌, ℤ, pos, negsuc, Bool, true, false, not, ◌&&◌, ◌||◌, List, [], ◌∷◌, map, length, replicate, Option, Some, None, nat_eq, nat_le, nat_lt, if◌then◌else◌}
+use Rattle.std.specs.Prelude.{ℕ, pos, negsuc, Bool, false, not, ◌||◌, List, [], ◌∷◌, map, replicate, Option, Some, None, nat_eq, nat_le, nat_lt, if◌then◌else◌}
 use Rattle.object_heap.specs.declared.value.Value.{Value}
-use Rattle.object_heap.specs.declared.value.Value.TheVariants.{Nil, Integer, Character, Class}
+use Rattle.object_heap.specs.declared.value.Value.TheVariants.{Integer, Character, Class}
 use Rattle.object_heap.specs.declared.trouble.Trouble.TheVariants.{IndexOutOfRange, NumberExpected, StringExpected, CharacterExpected, CannotBeInstantiated}
 use Rattle.object_heap.specs.Store.{Store}
 use Rattle.st_code.specs.Texts.{Text, same_text, text_less, is_upper, is_lower, is_digit, is_letter, to_upper, to_lower}
 use Rattle.st_code.specs.Program.{Program}
 use Rattle.st_rules.specs.BuiltIns.{symbol_class}
 use Rattle.st_rules.specs.Messages.{CharacterMessage, TranscriptMessage, StringMessage}
-use Rattle.st_rules.specs.Actions.{Action, Gives, Makes, Writes, Fails, boolean, first, makes_string}
+use Rattle.st_rules.specs.Actions.{Action, Gives, Writes, Fails, boolean, first, makes_string}
 use Rattle.st_rules.specs.Kinds.{bytes_of}
 
 -- ---- Characters

@@ -1,8 +1,7 @@
 -- The run of a program by a machine: its initializers in file order; and its turns, each one instruction with what it brings until the next.
-use Rattle.std.specs.Prelude.{◌≡◌, ℕ, zero, suc, ◌+◌, List, [], ◌∷◌, Option, Some, None}
-use Rattle.object_heap.specs.declared.value.Value.{Value}
+use Rattle.std.specs.Prelude.{◌≡◌, ℕ, zero, suc, ◌+◌, List, [], ◌∷◌, Option}
 use Rattle.st_code.specs.Program.{Program, Initializer}
-use Rattle.st_rules.specs.State.{State, Outcome, Answer, Go, Stop}
+use Rattle.st_rules.specs.State.{State, Answer}
 use Rattle.st_rules.specs.Ends.{initializer_opening}
 use Rattle.st_rules.specs.Machine.{Mach, Run, Settle, Begin, Over, Stuck, Bodies, open_act, step}
 use Rattle.st_rules.specs.Runs.{Ending, Done, Stuck as Stranded, kept_value, end_of, first_state}
