@@ -4,3 +4,4 @@ pub mod HandlerRuns
 pub mod UnwindingRuns
 pub mod SignalRuns
 pub mod PlainRuns
+pub mod BankRun

@@ -328,7 +328,7 @@ abbrev resignal_old_live : Program
 resignal_old_live =
     record {
       names = (codes "value") ∷ (codes "value:") ∷ (codes "value:value:") ∷ (61 ∷ []) ∷ (codes "defaultAction") ∷ (codes "isResumable") ∷ (codes "handles:") ∷ (codes "doesNotUnderstand:") ∷ (codes "printString") ∷ (codes "signal") ∷ (codes "new") ∷ (codes "resignalAs:") ∷ (codes "on:do:") ∷ (codes "messageText") ∷ (codes "show:") ∷ [];
-      classes = built_in_class_rows ++ record { name = 70 ∷ []; superclass = Some 23; in_file = true; indexed = NoIndexes; slots = 1; class_slots = 0 } ∷ [];
+      classes = built_in_class_rows ++ record { name = 70 ∷ []; superclass = Some 23; in_file = true; indexed = NoIndexes; slots = 1; class_slots = 1 } ∷ [];
       methods = record { class = 30; side = OfInstance; selector = 4; code = 0 } ∷ [];
       bodies =
           record { kind = InMethod; class = Class 30; parameters = 0; captured = []; outer = None; statements = Return (Send 9 (Variable (Shared 0)) no_trees) ∷ [] } ∷

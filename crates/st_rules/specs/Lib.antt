@@ -15,6 +15,7 @@ pub mod Loops
 pub mod Sends
 pub mod Ends
 pub mod Literals
+pub mod Definitions
 pub mod Rules
 pub mod Runs
 pub mod OneRun
