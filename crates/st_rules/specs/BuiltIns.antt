@@ -1,0 +1,680 @@
+-- The built-in classes by number, and the table of built-in messages (ANSI 5): class, side, selector, and what it does.
+use Rattle.std.specs.Prelude.{ℕ, Bool, true, false, ◌&&◌, List, [], ◌∷◌, map, Option, Some, None, nat_eq, codes}
+use Prim.Native.String.{String}
+use Rattle.st_code.specs.Texts.{Text, same_text}
+use Rattle.st_code.specs.Program.{Side, OfInstance, OfClass, same_side, ClassRow, NoIndexes}
+use Rattle.st_rules.specs.Messages.{ObjectMessage, ClassMessage, BooleanMessage, NumberMessage, CharacterMessage, TranscriptMessage, StringMessage, SequenceMessage, CollectionMessage, BlockMessage, Control, ExceptionMessage, LoopMessage, Row, Objects, Classes, Booleans, Numbers, Characters, Transcripts, Strings, Sequences, Collections, Blocks, Exceptions, Loops, Slots}
+
+-- a built-in class: its name, the number of its superclass, and how many named slots its instances have
+pub record BuiltInClass : Type 0 where
+  pub name : Text
+  pub superclass : Option ℕ
+  pub slots : ℕ
+
+abbrev pub object_class : ℕ
+object_class = 0
+
+abbrev pub undefined_object_class : ℕ
+undefined_object_class = 1
+
+abbrev pub boolean_class : ℕ
+boolean_class = 2
+
+abbrev pub true_class : ℕ
+true_class = 3
+
+abbrev pub false_class : ℕ
+false_class = 4
+
+abbrev pub integer_class : ℕ
+integer_class = 5
+
+abbrev pub fraction_class : ℕ
+fraction_class = 6
+
+abbrev pub character_class : ℕ
+character_class = 7
+
+abbrev pub collection_class : ℕ
+collection_class = 8
+
+abbrev pub string_class : ℕ
+string_class = 9
+
+abbrev pub symbol_class : ℕ
+symbol_class = 10
+
+abbrev pub array_class : ℕ
+array_class = 11
+
+abbrev pub byte_array_class : ℕ
+byte_array_class = 12
+
+abbrev pub ordered_collection_class : ℕ
+ordered_collection_class = 13
+
+abbrev pub set_class : ℕ
+set_class = 14
+
+abbrev pub dictionary_class : ℕ
+dictionary_class = 15
+
+abbrev pub interval_class : ℕ
+interval_class = 16
+
+abbrev pub association_class : ℕ
+association_class = 17
+
+abbrev pub block_class : ℕ
+block_class = 18
+
+abbrev pub message_class : ℕ
+message_class = 19
+
+abbrev pub class_class : ℕ
+class_class = 20
+
+abbrev pub metaclass_class : ℕ
+metaclass_class = 21
+
+abbrev pub transcript_writer_class : ℕ
+transcript_writer_class = 22
+
+abbrev pub exception_class : ℕ
+exception_class = 23
+
+abbrev pub error_class : ℕ
+error_class = 24
+
+abbrev pub notification_class : ℕ
+notification_class = 25
+
+abbrev pub zero_divide_class : ℕ
+zero_divide_class = 26
+
+abbrev pub message_not_understood_class : ℕ
+message_not_understood_class = 27
+
+abbrev pub warning_class : ℕ
+warning_class = 28
+
+abbrev pub exception_set_class : ℕ
+exception_set_class = 29
+
+abbrev built : String → Option ℕ → ℕ → BuiltInClass
+built name superclass slots = record { name = codes name; superclass = superclass; slots = slots }
+
+-- the built-in classes, by number
+unfoldable pub built_in_classes : List BuiltInClass
+built_in_classes =
+    built "Object" None 0 ∷
+    built "UndefinedObject" (Some object_class) 0 ∷
+    built "Boolean" (Some object_class) 0 ∷
+    built "True" (Some boolean_class) 0 ∷
+    built "False" (Some boolean_class) 0 ∷
+    built "Integer" (Some object_class) 0 ∷
+    built "Fraction" (Some object_class) 2 ∷
+    built "Character" (Some object_class) 0 ∷
+    built "Collection" (Some object_class) 0 ∷
+    built "String" (Some collection_class) 0 ∷
+    built "Symbol" (Some string_class) 0 ∷
+    built "Array" (Some collection_class) 0 ∷
+    built "ByteArray" (Some collection_class) 0 ∷
+    built "OrderedCollection" (Some collection_class) 0 ∷
+    built "Set" (Some collection_class) 0 ∷
+    built "Dictionary" (Some collection_class) 0 ∷
+    built "Interval" (Some collection_class) 3 ∷
+    built "Association" (Some object_class) 2 ∷
+    built "Block" (Some object_class) 0 ∷
+    built "Message" (Some object_class) 2 ∷
+    built "Class" (Some object_class) 0 ∷
+    built "Metaclass" (Some object_class) 0 ∷
+    built "TranscriptWriter" (Some object_class) 0 ∷
+    built "Exception" (Some object_class) 1 ∷
+    built "Error" (Some exception_class) 1 ∷
+    built "Notification" (Some exception_class) 1 ∷
+    built "ZeroDivide" (Some error_class) 2 ∷
+    built "MessageNotUnderstood" (Some error_class) 3 ∷
+    built "Warning" (Some notification_class) 1 ∷
+    built "ExceptionSet" (Some object_class) 0 ∷ []
+
+abbrev row_of : BuiltInClass → ClassRow
+row_of c = record { name = c.name; superclass = c.superclass; in_file = false; indexed = NoIndexes; slots = c.slots; class_slots = 0 }
+
+-- the first classes of every program
+unfoldable pub built_in_class_rows : List ClassRow
+unfolding built_in_classes
+built_in_class_rows = map row_of built_in_classes
+
+-- a selector with what it does
+pub record RowAt : Type 0 where
+  pub selector : Text
+  pub row : Row
+
+abbrev row : String → Row → RowAt
+row selector r = record { selector = codes selector; row = r }
+
+-- Object
+unfoldable object_rows : List RowAt
+object_rows =
+    row "=" (Objects ObjectMessage.Same) ∷
+    row "==" (Objects ObjectMessage.Same) ∷
+    row "~~" (Objects ObjectMessage.NotSame) ∷
+    row "class" (Objects ObjectMessage.ClassOf) ∷
+    row "isNil" (Objects ObjectMessage.IsNil) ∷
+    row "notNil" (Objects ObjectMessage.NotNil) ∷
+    row "isString" (Objects ObjectMessage.IsString) ∷
+    row "isSymbol" (Objects ObjectMessage.IsSymbol) ∷
+    row "isKindOf:" (Objects ObjectMessage.IsKindOf) ∷
+    row "isMemberOf:" (Objects ObjectMessage.IsMemberOf) ∷
+    row "respondsTo:" (Objects ObjectMessage.RespondsTo) ∷
+    row "hash" (Objects ObjectMessage.Hash) ∷
+    row "yourself" (Objects ObjectMessage.Yourself) ∷
+    row "copy" (Objects ObjectMessage.Copy) ∷
+    row "printString" (Objects ObjectMessage.PrintString) ∷
+    row "displayString" (Objects ObjectMessage.DisplayString) ∷
+    row "size" (Objects ObjectMessage.Size) ∷
+    row "at:" (Objects ObjectMessage.At) ∷
+    row "at:put:" (Objects ObjectMessage.AtPut) ∷
+    row "error:" (Objects ObjectMessage.ErrorText) ∷
+    row "subclassResponsibility" (Objects ObjectMessage.SubclassResponsibility) ∷
+    row "doesNotUnderstand:" (Objects ObjectMessage.NotUnderstood) ∷
+    row "perform:" (Objects ObjectMessage.Perform) ∷
+    row "perform:with:" (Objects ObjectMessage.Perform) ∷
+    row "perform:with:with:" (Objects ObjectMessage.Perform) ∷
+    row "perform:withArguments:" (Objects ObjectMessage.PerformWithArguments) ∷
+    row "->" (Objects ObjectMessage.Arrow) ∷
+    row "~=" (Loops LoopMessage.NotEqual) ∷
+    []
+
+-- Class
+unfoldable class_rows : List RowAt
+class_rows =
+    row "name" (Classes ClassMessage.Name) ∷
+    row "superclass" (Classes ClassMessage.Superclass) ∷
+    row "new" (Classes ClassMessage.New) ∷
+    row "new:" (Classes ClassMessage.NewSize) ∷
+    []
+
+-- Boolean
+unfoldable boolean_rows : List RowAt
+boolean_rows =
+    row "&" (Booleans BooleanMessage.And) ∷
+    row "|" (Booleans BooleanMessage.Or) ∷
+    row "not" (Booleans BooleanMessage.Not) ∷
+    row "xor:" (Booleans BooleanMessage.Xor) ∷
+    row "and:" (Booleans BooleanMessage.AndThen) ∷
+    row "or:" (Booleans BooleanMessage.OrElse) ∷
+    row "ifTrue:" (Booleans BooleanMessage.IfTrue) ∷
+    row "ifFalse:" (Booleans BooleanMessage.IfFalse) ∷
+    row "ifTrue:ifFalse:" (Booleans BooleanMessage.IfTrueIfFalse) ∷
+    row "ifFalse:ifTrue:" (Booleans BooleanMessage.IfFalseIfTrue) ∷
+    []
+
+-- Integer
+unfoldable integer_rows : List RowAt
+integer_rows =
+    row "+" (Numbers NumberMessage.Add) ∷
+    row "-" (Numbers NumberMessage.Subtract) ∷
+    row "*" (Numbers NumberMessage.Multiply) ∷
+    row "/" (Numbers NumberMessage.Divide) ∷
+    row "//" (Numbers NumberMessage.FloorDivide) ∷
+    row "\\\\" (Numbers NumberMessage.FloorModulo) ∷
+    row "quo:" (Numbers NumberMessage.Quotient) ∷
+    row "rem:" (Numbers NumberMessage.Remainder) ∷
+    row "<" (Numbers NumberMessage.Less) ∷
+    row ">" (Numbers NumberMessage.Greater) ∷
+    row "<=" (Numbers NumberMessage.LessOrEqual) ∷
+    row ">=" (Numbers NumberMessage.GreaterOrEqual) ∷
+    row "=" (Numbers NumberMessage.Equal) ∷
+    row "negated" (Numbers NumberMessage.Negated) ∷
+    row "abs" (Numbers NumberMessage.Abs) ∷
+    row "sign" (Numbers NumberMessage.Sign) ∷
+    row "even" (Numbers NumberMessage.Even) ∷
+    row "odd" (Numbers NumberMessage.Odd) ∷
+    row "isZero" (Numbers NumberMessage.IsZero) ∷
+    row "max:" (Numbers NumberMessage.Max) ∷
+    row "min:" (Numbers NumberMessage.Min) ∷
+    row "gcd:" (Numbers NumberMessage.Gcd) ∷
+    row "lcm:" (Numbers NumberMessage.Lcm) ∷
+    row "bitAnd:" (Numbers NumberMessage.BitAnd) ∷
+    row "bitOr:" (Numbers NumberMessage.BitOr) ∷
+    row "bitXor:" (Numbers NumberMessage.BitXor) ∷
+    row "bitShift:" (Numbers NumberMessage.BitShift) ∷
+    row "numerator" (Numbers NumberMessage.Numerator) ∷
+    row "denominator" (Numbers NumberMessage.Denominator) ∷
+    row "truncated" (Numbers NumberMessage.Truncated) ∷
+    row "reciprocal" (Numbers NumberMessage.Reciprocal) ∷
+    row "printString:" (Numbers NumberMessage.PrintRadix) ∷
+    row "asString" (Numbers NumberMessage.AsString) ∷
+    row "to:" (Numbers NumberMessage.To) ∷
+    row "to:by:" (Numbers NumberMessage.ToBy) ∷
+    row "timesRepeat:" (Loops LoopMessage.TimesRepeat) ∷
+    row "to:do:" (Loops LoopMessage.ToDo) ∷
+    row "to:by:do:" (Loops LoopMessage.ToByDo) ∷
+    []
+
+-- Fraction
+unfoldable fraction_rows : List RowAt
+fraction_rows =
+    row "+" (Numbers NumberMessage.Add) ∷
+    row "-" (Numbers NumberMessage.Subtract) ∷
+    row "*" (Numbers NumberMessage.Multiply) ∷
+    row "/" (Numbers NumberMessage.Divide) ∷
+    row "<" (Numbers NumberMessage.Less) ∷
+    row ">" (Numbers NumberMessage.Greater) ∷
+    row "<=" (Numbers NumberMessage.LessOrEqual) ∷
+    row ">=" (Numbers NumberMessage.GreaterOrEqual) ∷
+    row "=" (Numbers NumberMessage.Equal) ∷
+    row "negated" (Numbers NumberMessage.Negated) ∷
+    row "abs" (Numbers NumberMessage.Abs) ∷
+    row "sign" (Numbers NumberMessage.Sign) ∷
+    row "isZero" (Numbers NumberMessage.IsZero) ∷
+    row "max:" (Numbers NumberMessage.Max) ∷
+    row "min:" (Numbers NumberMessage.Min) ∷
+    row "numerator" (Numbers NumberMessage.Numerator) ∷
+    row "denominator" (Numbers NumberMessage.Denominator) ∷
+    row "truncated" (Numbers NumberMessage.Truncated) ∷
+    row "reciprocal" (Numbers NumberMessage.Reciprocal) ∷
+    row "asString" (Numbers NumberMessage.AsString) ∷
+    []
+
+-- Fraction class
+unfoldable fraction_class_rows : List RowAt
+fraction_class_rows =
+    row "numerator:denominator:" (Numbers NumberMessage.FromNumerator) ∷
+    []
+
+-- Character class
+unfoldable character_class_rows : List RowAt
+character_class_rows =
+    row "codePoint:" (Characters CharacterMessage.FromCodePoint) ∷
+    row "cr" (Characters (CharacterMessage.Fixed 13)) ∷
+    row "lf" (Characters (CharacterMessage.Fixed 10)) ∷
+    row "tab" (Characters (CharacterMessage.Fixed 9)) ∷
+    row "space" (Characters (CharacterMessage.Fixed 32)) ∷
+    []
+
+-- Character
+unfoldable character_rows : List RowAt
+character_rows =
+    row "codePoint" (Characters CharacterMessage.CodePoint) ∷
+    row "asLowercase" (Characters CharacterMessage.AsLowercase) ∷
+    row "asUppercase" (Characters CharacterMessage.AsUppercase) ∷
+    row "asString" (Characters CharacterMessage.AsString) ∷
+    row "isLetter" (Characters CharacterMessage.IsLetter) ∷
+    row "isDigit" (Characters CharacterMessage.IsDigit) ∷
+    row "isAlphaNumeric" (Characters CharacterMessage.IsAlphaNumeric) ∷
+    row "isLowercase" (Characters CharacterMessage.IsLowercase) ∷
+    row "isUppercase" (Characters CharacterMessage.IsUppercase) ∷
+    row "<" (Characters CharacterMessage.Less) ∷
+    row ">" (Characters CharacterMessage.Greater) ∷
+    row "<=" (Characters CharacterMessage.LessOrEqual) ∷
+    row ">=" (Characters CharacterMessage.GreaterOrEqual) ∷
+    []
+
+-- TranscriptWriter
+unfoldable transcript_rows : List RowAt
+transcript_rows =
+    row "show:" (Transcripts TranscriptMessage.Show) ∷
+    row "nextPutAll:" (Transcripts TranscriptMessage.Show) ∷
+    row "nextPut:" (Transcripts TranscriptMessage.NextPut) ∷
+    row "cr" (Transcripts (TranscriptMessage.WriteByte 10)) ∷
+    row "tab" (Transcripts (TranscriptMessage.WriteByte 9)) ∷
+    row "space" (Transcripts (TranscriptMessage.WriteByte 32)) ∷
+    row "flush" (Transcripts TranscriptMessage.Flush) ∷
+    []
+
+-- String
+unfoldable string_rows : List RowAt
+string_rows =
+    row "=" (Strings StringMessage.Equal) ∷
+    row "<" (Strings StringMessage.Less) ∷
+    row ">" (Strings StringMessage.Greater) ∷
+    row "<=" (Strings StringMessage.LessOrEqual) ∷
+    row ">=" (Strings StringMessage.GreaterOrEqual) ∷
+    row "asUppercase" (Strings StringMessage.AsUppercase) ∷
+    row "asLowercase" (Strings StringMessage.AsLowercase) ∷
+    row "asString" (Strings StringMessage.AsString) ∷
+    row "sameAs:" (Strings StringMessage.SameAs) ∷
+    row "at:put:" (Sequences SequenceMessage.AtPut) ∷
+    []
+
+-- String class
+unfoldable string_class_rows : List RowAt
+string_class_rows =
+    row "new:" (Strings StringMessage.NewSize) ∷
+    []
+
+-- Symbol
+unfoldable symbol_rows : List RowAt
+symbol_rows =
+    row "=" (Objects ObjectMessage.Same) ∷
+    row "asString" (Strings StringMessage.AsString) ∷
+    []
+
+-- String, Symbol, Array, ByteArray, OrderedCollection, Interval
+unfoldable sequence_rows : List RowAt
+sequence_rows =
+    row "at:" (Sequences SequenceMessage.At) ∷
+    row "size" (Sequences SequenceMessage.Size) ∷
+    row "isEmpty" (Sequences SequenceMessage.IsEmpty) ∷
+    row "notEmpty" (Sequences SequenceMessage.NotEmpty) ∷
+    row "first" (Sequences SequenceMessage.First) ∷
+    row "last" (Sequences SequenceMessage.Last) ∷
+    row "," (Sequences SequenceMessage.Join) ∷
+    row "copyFrom:to:" (Sequences SequenceMessage.CopyFromTo) ∷
+    row "reverse" (Sequences SequenceMessage.Reverse) ∷
+    row "asArray" (Sequences SequenceMessage.AsArray) ∷
+    row "asOrderedCollection" (Sequences SequenceMessage.AsOrderedCollection) ∷
+    row "reverseDo:" (Loops LoopMessage.ReverseDo) ∷
+    row "keysAndValuesDo:" (Loops LoopMessage.KeysAndValuesDo) ∷
+    row "indexOf:" (Loops LoopMessage.IndexOf) ∷
+    []
+
+-- Array, ByteArray, OrderedCollection
+unfoldable array_byte_rows : List RowAt
+array_byte_rows =
+    row "at:put:" (Sequences SequenceMessage.AtPut) ∷
+    []
+
+-- Array class
+unfoldable array_class_rows : List RowAt
+array_class_rows =
+    row "new:" (Collections CollectionMessage.NewArray) ∷
+    row "with:" (Collections CollectionMessage.With) ∷
+    row "with:with:" (Collections CollectionMessage.With) ∷
+    row "with:with:with:" (Collections CollectionMessage.With) ∷
+    row "with:with:with:with:" (Collections CollectionMessage.With) ∷
+    row "withAll:" (Collections CollectionMessage.WithAll) ∷
+    []
+
+-- ByteArray class
+unfoldable byte_array_class_rows : List RowAt
+byte_array_class_rows =
+    row "new:" (Collections CollectionMessage.NewByteArray) ∷
+    []
+
+-- OrderedCollection class
+unfoldable ordered_class_rows : List RowAt
+ordered_class_rows =
+    row "new" (Collections CollectionMessage.NewEmpty) ∷
+    row "new:" (Collections CollectionMessage.NewEmpty) ∷
+    []
+
+-- OrderedCollection
+unfoldable ordered_rows : List RowAt
+ordered_rows =
+    row "add:" (Collections CollectionMessage.Add) ∷
+    row "addLast:" (Collections CollectionMessage.Add) ∷
+    row "addFirst:" (Collections CollectionMessage.AddFirst) ∷
+    row "addAll:" (Collections CollectionMessage.AddAll) ∷
+    row "removeFirst" (Collections CollectionMessage.RemoveFirst) ∷
+    row "removeLast" (Collections CollectionMessage.RemoveLast) ∷
+    row "add:beforeIndex:" (Collections CollectionMessage.AddBeforeIndex) ∷
+    row "removeAtIndex:" (Collections CollectionMessage.RemoveAtIndex) ∷
+    []
+
+-- Set, Dictionary class
+unfoldable set_class_rows : List RowAt
+set_class_rows =
+    row "new" (Collections CollectionMessage.NewEmpty) ∷
+    []
+
+-- Set, Dictionary
+unfoldable set_size_rows : List RowAt
+set_size_rows =
+    row "size" (Sequences SequenceMessage.Size) ∷
+    row "isEmpty" (Sequences SequenceMessage.IsEmpty) ∷
+    row "notEmpty" (Sequences SequenceMessage.NotEmpty) ∷
+    []
+
+-- Set
+unfoldable set_rows : List RowAt
+set_rows =
+    row "add:" (Loops LoopMessage.AddToSet) ∷
+    []
+
+-- Set, OrderedCollection
+unfoldable remove_rows : List RowAt
+remove_rows =
+    row "remove:" (Loops LoopMessage.Remove) ∷
+    row "remove:ifAbsent:" (Loops LoopMessage.RemoveIfAbsent) ∷
+    []
+
+-- Dictionary
+unfoldable dictionary_rows : List RowAt
+dictionary_rows =
+    row "keys" (Collections CollectionMessage.Keys) ∷
+    row "values" (Collections CollectionMessage.Values) ∷
+    row "keysAndValuesDo:" (Loops LoopMessage.KeysAndValuesDo) ∷
+    row "keysDo:" (Loops LoopMessage.KeysDo) ∷
+    row "at:" (Loops LoopMessage.At) ∷
+    row "at:ifAbsent:" (Loops LoopMessage.AtIfAbsent) ∷
+    row "at:put:" (Loops LoopMessage.AtPut) ∷
+    row "at:ifAbsentPut:" (Loops LoopMessage.AtIfAbsentPut) ∷
+    row "includesKey:" (Loops LoopMessage.IncludesKey) ∷
+    row "removeKey:" (Loops LoopMessage.RemoveKey) ∷
+    row "removeKey:ifAbsent:" (Loops LoopMessage.RemoveKeyIfAbsent) ∷
+    []
+
+-- String, Symbol, Array, ByteArray, OrderedCollection, Interval, Set, Dictionary
+unfoldable element_rows : List RowAt
+element_rows =
+    row "do:" (Loops LoopMessage.Do) ∷
+    row "do:separatedBy:" (Loops LoopMessage.DoSeparatedBy) ∷
+    row "inject:into:" (Loops LoopMessage.InjectInto) ∷
+    row "detect:" (Loops LoopMessage.Detect) ∷
+    row "detect:ifNone:" (Loops LoopMessage.DetectIfNone) ∷
+    row "anySatisfy:" (Loops LoopMessage.AnySatisfy) ∷
+    row "allSatisfy:" (Loops LoopMessage.AllSatisfy) ∷
+    row "collect:" (Loops LoopMessage.Collect) ∷
+    row "select:" (Loops LoopMessage.Select) ∷
+    row "reject:" (Loops LoopMessage.Reject) ∷
+    row "includes:" (Loops LoopMessage.Includes) ∷
+    row "occurrencesOf:" (Loops LoopMessage.OccurrencesOf) ∷
+    []
+
+-- Array, OrderedCollection
+unfoldable equal_rows : List RowAt
+equal_rows =
+    row "=" (Loops LoopMessage.EqualElements) ∷
+    []
+
+-- Association class
+unfoldable association_class_rows : List RowAt
+association_class_rows =
+    row "key:value:" (Collections CollectionMessage.KeyValue) ∷
+    []
+
+-- Association
+unfoldable association_rows : List RowAt
+association_rows =
+    row "key" (Slots 0) ∷
+    row "value" (Slots 1) ∷
+    []
+
+-- Block
+unfoldable block_rows : List RowAt
+block_rows =
+    row "value" (Blocks BlockMessage.Value) ∷
+    row "value:" (Blocks BlockMessage.Value) ∷
+    row "value:value:" (Blocks BlockMessage.Value) ∷
+    row "value:value:value:" (Blocks BlockMessage.Value) ∷
+    row "value:value:value:value:" (Blocks BlockMessage.Value) ∷
+    row "valueWithArguments:" (Blocks BlockMessage.ValueWithArguments) ∷
+    row "numArgs" (Blocks BlockMessage.NumArgs) ∷
+    row "on:do:" (Blocks BlockMessage.OnDo) ∷
+    row "ensure:" (Blocks BlockMessage.Ensure) ∷
+    row "ifCurtailed:" (Blocks BlockMessage.IfCurtailed) ∷
+    row "whileTrue:" (Loops LoopMessage.WhileTrue) ∷
+    row "whileFalse:" (Loops LoopMessage.WhileFalse) ∷
+    row "whileTrue" (Loops LoopMessage.WhileTrue) ∷
+    row "whileFalse" (Loops LoopMessage.WhileFalse) ∷
+    []
+
+-- Exception class
+unfoldable exception_class_rows : List RowAt
+exception_class_rows =
+    row "new" (Exceptions ExceptionMessage.New) ∷
+    row "signal" (Exceptions ExceptionMessage.SignalNew) ∷
+    row "signal:" (Exceptions ExceptionMessage.SignalNew) ∷
+    row "," (Exceptions ExceptionMessage.Join) ∷
+    row "handles:" (Exceptions ExceptionMessage.Handles) ∷
+    []
+
+-- Exception
+unfoldable exception_rows : List RowAt
+exception_rows =
+    row "signal" (Exceptions ExceptionMessage.Signal) ∷
+    row "signal:" (Exceptions ExceptionMessage.SignalText) ∷
+    row "messageText" (Exceptions ExceptionMessage.MessageText) ∷
+    row "messageText:" (Exceptions ExceptionMessage.SetMessageText) ∷
+    row "description" (Exceptions ExceptionMessage.Description) ∷
+    row "return" (Exceptions (ExceptionMessage.Controls Control.Return)) ∷
+    row "return:" (Exceptions (ExceptionMessage.Controls Control.Return)) ∷
+    row "retry" (Exceptions (ExceptionMessage.Controls Control.Retry)) ∷
+    row "retryUsing:" (Exceptions (ExceptionMessage.Controls Control.RetryUsing)) ∷
+    row "resume" (Exceptions (ExceptionMessage.Controls Control.Resume)) ∷
+    row "resume:" (Exceptions (ExceptionMessage.Controls Control.Resume)) ∷
+    row "pass" (Exceptions (ExceptionMessage.Controls Control.Pass)) ∷
+    row "outer" (Exceptions (ExceptionMessage.Controls Control.Outer)) ∷
+    row "resignalAs:" (Exceptions (ExceptionMessage.Controls Control.ResignalAs)) ∷
+    row "isNested" (Exceptions (ExceptionMessage.Controls Control.IsNested)) ∷
+    row "isResumable" (Exceptions (ExceptionMessage.IsResumable false)) ∷
+    row "defaultAction" (Exceptions ExceptionMessage.TerminatesProgram) ∷
+    []
+
+-- Notification
+unfoldable notification_rows : List RowAt
+notification_rows =
+    row "isResumable" (Exceptions (ExceptionMessage.IsResumable true)) ∷
+    row "defaultAction" (Exceptions ExceptionMessage.AnswersNil) ∷
+    []
+
+-- Warning
+unfoldable warning_rows : List RowAt
+warning_rows =
+    row "defaultAction" (Exceptions ExceptionMessage.Warns) ∷
+    []
+
+-- ZeroDivide
+unfoldable zero_divide_rows : List RowAt
+zero_divide_rows =
+    row "dividend" (Slots 1) ∷
+    row "isResumable" (Exceptions (ExceptionMessage.IsResumable true)) ∷
+    []
+
+-- MessageNotUnderstood
+unfoldable not_understood_rows : List RowAt
+not_understood_rows =
+    row "message" (Slots 1) ∷
+    row "receiver" (Slots 2) ∷
+    row "isResumable" (Exceptions (ExceptionMessage.IsResumable true)) ∷
+    []
+
+-- Message
+unfoldable message_rows : List RowAt
+message_rows =
+    row "selector" (Slots 0) ∷
+    row "arguments" (Slots 1) ∷
+    []
+
+-- ExceptionSet
+unfoldable exception_set_rows : List RowAt
+exception_set_rows =
+    row "," (Exceptions ExceptionMessage.Join) ∷
+    row "handles:" (Exceptions ExceptionMessage.Handles) ∷
+    []
+
+-- the rows of a class on a side
+pub record Section : Type 0 where
+  pub class : ℕ
+  pub side : Side
+  pub rows : List RowAt
+
+abbrev section : ℕ → Side → List RowAt → Section
+section class side rows = record { class = class; side = side; rows = rows }
+
+-- the whole table
+unfoldable pub built_in_messages : List Section
+unfolding object_rows class_rows boolean_rows integer_rows fraction_rows fraction_class_rows character_class_rows character_rows transcript_rows string_rows string_class_rows symbol_rows sequence_rows array_byte_rows array_class_rows byte_array_class_rows ordered_class_rows ordered_rows set_class_rows set_size_rows set_rows remove_rows dictionary_rows element_rows equal_rows association_class_rows association_rows block_rows exception_class_rows exception_rows notification_rows warning_rows zero_divide_rows not_understood_rows message_rows exception_set_rows
+built_in_messages =
+    section object_class OfInstance object_rows ∷
+    section class_class OfInstance class_rows ∷
+    section boolean_class OfInstance boolean_rows ∷
+    section integer_class OfInstance integer_rows ∷
+    section fraction_class OfInstance fraction_rows ∷
+    section fraction_class OfClass fraction_class_rows ∷
+    section character_class OfClass character_class_rows ∷
+    section character_class OfInstance character_rows ∷
+    section transcript_writer_class OfInstance transcript_rows ∷
+    section string_class OfInstance string_rows ∷
+    section string_class OfClass string_class_rows ∷
+    section symbol_class OfInstance symbol_rows ∷
+    section string_class OfInstance sequence_rows ∷
+    section symbol_class OfInstance sequence_rows ∷
+    section array_class OfInstance sequence_rows ∷
+    section byte_array_class OfInstance sequence_rows ∷
+    section ordered_collection_class OfInstance sequence_rows ∷
+    section interval_class OfInstance sequence_rows ∷
+    section array_class OfInstance array_byte_rows ∷
+    section byte_array_class OfInstance array_byte_rows ∷
+    section ordered_collection_class OfInstance array_byte_rows ∷
+    section array_class OfClass array_class_rows ∷
+    section byte_array_class OfClass byte_array_class_rows ∷
+    section ordered_collection_class OfClass ordered_class_rows ∷
+    section ordered_collection_class OfInstance ordered_rows ∷
+    section set_class OfClass set_class_rows ∷
+    section dictionary_class OfClass set_class_rows ∷
+    section set_class OfInstance set_size_rows ∷
+    section dictionary_class OfInstance set_size_rows ∷
+    section set_class OfInstance set_rows ∷
+    section set_class OfInstance remove_rows ∷
+    section ordered_collection_class OfInstance remove_rows ∷
+    section dictionary_class OfInstance dictionary_rows ∷
+    section string_class OfInstance element_rows ∷
+    section symbol_class OfInstance element_rows ∷
+    section array_class OfInstance element_rows ∷
+    section byte_array_class OfInstance element_rows ∷
+    section ordered_collection_class OfInstance element_rows ∷
+    section interval_class OfInstance element_rows ∷
+    section set_class OfInstance element_rows ∷
+    section dictionary_class OfInstance element_rows ∷
+    section array_class OfInstance equal_rows ∷
+    section ordered_collection_class OfInstance equal_rows ∷
+    section association_class OfClass association_class_rows ∷
+    section association_class OfInstance association_rows ∷
+    section block_class OfInstance block_rows ∷
+    section exception_class OfClass exception_class_rows ∷
+    section exception_class OfInstance exception_rows ∷
+    section notification_class OfInstance notification_rows ∷
+    section warning_class OfInstance warning_rows ∷
+    section zero_divide_class OfInstance zero_divide_rows ∷
+    section message_not_understood_class OfInstance not_understood_rows ∷
+    section message_class OfInstance message_rows ∷
+    section exception_set_class OfInstance exception_set_rows ∷
+    []
+
+-- the row of a selector, unless there is none
+unfoldable row_in : List RowAt → Text → Option Row
+row_in [] selector = None
+row_in (r ∷ rows) selector = elim (same_text r.selector selector) [ true ↦ Some r.row | false ↦ row_in rows selector ]
+
+abbrev is_section : ℕ → Side → Section → Bool
+is_section class side s = nat_eq s.class class && same_side s.side side
+
+abbrev or_else : Option Row → Option Row → Option Row
+or_else (Some r) o = Some r
+or_else None o = o
+
+unfoldable row_in_sections : List Section → ℕ → Side → Text → Option Row
+unfolding row_in
+row_in_sections [] class side selector = None
+row_in_sections (s ∷ sections) class side selector =
+    elim (is_section class side s) [ true ↦ or_else (row_in s.rows selector) (row_in_sections sections class side selector) | false ↦ row_in_sections sections class side selector ]
+
+-- what a selector does for this class itself on this side
+unfoldable pub row_at : ℕ → Side → Text → Option Row
+unfolding built_in_messages row_in_sections
+row_at class side selector = row_in_sections built_in_messages class side selector

@@ -1,0 +1,6 @@
+// The meaning of programs: the rules, the instruction machines and the built-in messages stand in specs/, in reading order; what is proved of them is the contract of a function here.
+#![tactic(auto)]
+
+mod one_run;
+
+pub use one_run::a_program_has_at_most_one_run;
