@@ -31,18 +31,18 @@ number_step items fs n true d tree e = e
 number_step items fs n false d tree e = stuck e
 
 single_step : {a d : List Sym} {k : Option TokenKind} {t : List ℕ} {at : ℕ} → Front a k t at d → r.is_keyword k ≡ false → r.is_operator k ≡ false → r.is_array_end k ≡ false → r.is_inner_open k ≡ false → r.ReadsItem a (r.item_of k t) d
-single_step {k = Some kind.Identifier} one e f g h = record { goes = λ items fs tree x. x; }
+single_step {k = Some kind.Identifier} one e f g h = record { goes = λ items fs tree x. x }
 single_step {k = Some kind.Keyword} one e f g h = cc
 single_step {k = Some kind.Operator} one e f g h = cc
-single_step {d = d} {k = Some (kind.Integer n)} one e f g h = record { goes = λ items fs tree x. number_step items fs n (nat_lt n (2 ^ 127)) d tree x; }
-single_step {k = Some kind.Character} one e f g h = record { goes = λ items fs tree x. x; }
-single_step {k = Some kind.Str} one e f g h = record { goes = λ items fs tree x. x; }
-single_step {k = Some kind.Symbol} one e f g h = record { goes = λ items fs tree x. x; }
-single_step {k = Some kind.QuotedSymbol} one e f g h = record { goes = λ items fs tree x. x; }
+single_step {d = d} {k = Some (kind.Integer n)} one e f g h = record { goes = λ items fs tree x. number_step items fs n (nat_lt n (2 ^ 127)) d tree x }
+single_step {k = Some kind.Character} one e f g h = record { goes = λ items fs tree x. x }
+single_step {k = Some kind.Str} one e f g h = record { goes = λ items fs tree x. x }
+single_step {k = Some kind.Symbol} one e f g h = record { goes = λ items fs tree x. x }
+single_step {k = Some kind.QuotedSymbol} one e f g h = record { goes = λ items fs tree x. x }
 single_step {k = Some kind.ArrayOpen} one e f g h = cc
 single_step {k = Some kind.ParenOpen} one e f g h = cc
 single_step {k = Some kind.ParenClose} one e f g h = cc
-single_step one e f g h = record { goes = λ items fs tree x. stuck x; }
+single_step one e f g h = record { goes = λ items fs tree x. stuck x }
 single_step none e f g h = cc
 
 pub single_read : (source : List ℕ) (tokens : List Token) (at : ℕ) → r.is_keyword (kind_at tokens at) ≡ false → r.is_operator (kind_at tokens at) ≡ false → r.is_array_end (kind_at tokens at) ≡ false → r.is_inner_open (kind_at tokens at) ≡ false
@@ -62,11 +62,11 @@ dash_ends none end e items fs tree x = stuck x
 
 symbol_by : (g : Sign) (t : List ℕ) (at : ℕ) {op_at : ℕ} {d : List Sym} → IsOp (sign_sym g t at) t op_at → (r.is_minus g ≡ true → (items : List Literal) (fs : List Frame) → Goes (Dash items (at + 1), fs) d (Elements (items ++ literal.Symbol (45 ∷ []) ∷ []), fs) d)
     → r.ReadsItem (sign_sym g t at ∷ d) (literal.Symbol t) d
-symbol_by sign.Minus t at minus h = record { goes = λ items fs tree x. h refl items fs tree x; }
-symbol_by sign.Bar t at bar h = record { goes = λ items fs tree x. x; }
-symbol_by sign.TwoBars t at two_bars h = record { goes = λ items fs tree x. x; }
-symbol_by sign.ThreeBars t at three_bars h = record { goes = λ items fs tree x. x; }
-symbol_by sign.Plain t at o h = record { goes = λ items fs tree x. x; }
+symbol_by sign.Minus t at minus h = record { goes = λ items fs tree x. h refl items fs tree x }
+symbol_by sign.Bar t at bar h = record { goes = λ items fs tree x. x }
+symbol_by sign.TwoBars t at two_bars h = record { goes = λ items fs tree x. x }
+symbol_by sign.ThreeBars t at three_bars h = record { goes = λ items fs tree x. x }
+symbol_by sign.Plain t at o h = record { goes = λ items fs tree x. x }
 
 both_false : (p q : Bool) → (if p then q else false) ≡ false → p ≡ true → q ≡ false
 both_false true q e f = e
@@ -76,7 +76,7 @@ symbol_step : {a d c : List Sym} {k k' : Option TokenKind} {t t' : List ℕ} {at
     → (if r.is_minus (r.sign_there k t) then r.is_integer_from k' at' (at + 1) else false) ≡ false → r.ReadsItem a (literal.Symbol t) d
 symbol_step {d = d} {k = Some kind.Operator} {k' = k'} {t = t} {at = at} {at' = at'} one f e g =
     subst (λ s. r.ReadsItem (s ∷ d) (literal.Symbol t) d) (sym (sign_is t at))
-      (symbol_by (sign_of t) t at (subst (λ s. IsOp s t at) (sign_is t at) (is_op t at)) (λ h items fs. dash_ends f (at + 1) (both_false (r.is_minus (sign_of t)) (r.is_integer_from k' at' (at + 1)) g h) items fs))
+    (symbol_by (sign_of t) t at (subst (λ s. IsOp s t at) (sign_is t at) (is_op t at)) (λ h items fs. dash_ends f (at + 1) (both_false (r.is_minus (sign_of t)) (r.is_integer_from k' at' (at + 1)) g h) items fs))
 symbol_step one f e g = cc
 symbol_step none f e g = cc
 
@@ -101,7 +101,7 @@ both_true true false e = cc
 both_true false q e = cc
 
 negative_by : (g : Sign) (t : List ℕ) (at : ℕ) {c d : List Sym} {k : Option TokenKind} {t' : List ℕ} {at' : ℕ} → Front c k t' at' d → r.is_minus g ≡ true → r.is_integer_from k at' (at + 1) ≡ true → r.ReadsItem (sign_sym g t at ∷ c) (r.negated_of k) d
-negative_by sign.Minus t at {d = d} {k = Some (kind.Integer n)} {at' = at'} one e f = record { goes = λ items fs tree x. number_dash n at' (at + 1) d f items fs tree x; }
+negative_by sign.Minus t at {d = d} {k = Some (kind.Integer n)} {at' = at'} one e f = record { goes = λ items fs tree x. number_dash n at' (at + 1) d f items fs tree x }
 negative_by sign.Minus t at one e f = cc
 negative_by sign.Minus t at none e f = cc
 negative_by g t at x e f = cc
@@ -125,7 +125,7 @@ pub record ReadsRun (a : List Sym) (t : List ℕ) (end : ℕ) (b : List Sym) : T
   pub goes : (items : List Literal) (fs : List Frame) → Goes (Elements items, fs) a (Run items t end, fs) b
 
 run_begins : {a d : List Sym} {k : Option TokenKind} {t : List ℕ} {at : ℕ} → Front a k t at d → r.is_keyword k ≡ true → ReadsRun a t (at + length t) d
-run_begins {k = Some kind.Keyword} one e = record { goes = λ items fs tree x. x; }
+run_begins {k = Some kind.Keyword} one e = record { goes = λ items fs tree x. x }
 run_begins one e = cc
 run_begins none e = cc
 
@@ -133,8 +133,10 @@ pub run_first : (source : List ℕ) (tokens : List Token) (at : ℕ) → r.is_ke
 run_first source tokens at e = run_begins (left source tokens at) e
 
 run_step : {a b d : List Sym} {k : Option TokenKind} {t u : List ℕ} {at end : ℕ} → Front b k u at d → r.is_keyword_from k at end ≡ true → ReadsRun a t end b → ReadsRun a (t ++ u) (at + length u) d
-run_step {d = d} {k = Some kind.Keyword} {t = t} {u = u} {at = at} one e x = record { goes = λ items fs tree h.
-    subst (λ v. option_and_then (λ next. parse next d) (if v then Some (Run items (t ++ u) (at + length u), fs) else elements (items ++ literal.Symbol t ∷ []) fs (Key u at)) ≡ Some tree) e (x.goes items fs tree h); }
+run_step {d = d} {k = Some kind.Keyword} {t = t} {u = u} {at = at} one e x = record {
+  goes = λ items fs tree h.
+      subst (λ v. option_and_then (λ next. parse next d) (if v then Some (Run items (t ++ u) (at + length u), fs) else elements (items ++ literal.Symbol t ∷ []) fs (Key u at)) ≡ Some tree) e (x.goes items fs tree h);
+}
 run_step one e x = cc
 run_step none e x = cc
 
@@ -143,12 +145,16 @@ pub run_more : (source : List ℕ) (tokens : List Token) (at : ℕ) {a : List Sy
 run_more source tokens at e x = run_step (left source tokens at) e x
 
 run_ends : {a b d : List Sym} {k : Option TokenKind} {t u : List ℕ} {at end : ℕ} → Front b k u at d → r.is_keyword_from k at end ≡ false → ReadsRun a t end b → r.ReadsItem a (literal.Symbol t) b
-run_ends {d = d} {k = Some kind.Keyword} {t = t} {u = u} {at = at} one e x = record { goes = λ items fs tree h.
-    subst (λ v. option_and_then (λ next. parse next d) (if v then Some (Run items (t ++ u) (at + length u), fs) else elements (items ++ literal.Symbol t ∷ []) fs (Key u at)) ≡ Some tree) e (x.goes items fs tree h); }
-run_ends {d = d} {k = Some kind.Operator} {t = t} {u = u} {at = at} {end = end} one e x = record { goes = λ items fs tree h.
-    by_op (λ s. option_and_then (λ next. parse next d) (keyword_run items t end fs s) ≡ Some tree → parse (Elements (items ++ literal.Symbol t ∷ []), fs) (s ∷ d) ≡ Some tree) u at (λ y. y) (λ y. y) (λ y. y) (λ y. y) (λ y. y) (x.goes items fs tree h); }
-run_ends one e x = record { goes = λ items fs tree h. x.goes items fs tree h; }
-run_ends none e x = record { goes = λ items fs tree h. stuck (x.goes items fs tree h); }
+run_ends {d = d} {k = Some kind.Keyword} {t = t} {u = u} {at = at} one e x = record {
+  goes = λ items fs tree h.
+      subst (λ v. option_and_then (λ next. parse next d) (if v then Some (Run items (t ++ u) (at + length u), fs) else elements (items ++ literal.Symbol t ∷ []) fs (Key u at)) ≡ Some tree) e (x.goes items fs tree h);
+}
+run_ends {d = d} {k = Some kind.Operator} {t = t} {u = u} {at = at} {end = end} one e x = record {
+  goes = λ items fs tree h.
+      by_op (λ s. option_and_then (λ next. parse next d) (keyword_run items t end fs s) ≡ Some tree → parse (Elements (items ++ literal.Symbol t ∷ []), fs) (s ∷ d) ≡ Some tree) u at (λ y. y) (λ y. y) (λ y. y) (λ y. y) (λ y. y) (x.goes items fs tree h);
+}
+run_ends one e x = record { goes = λ items fs tree h. x.goes items fs tree h }
+run_ends none e x = record { goes = λ items fs tree h. stuck (x.goes items fs tree h) }
 
 pub run_read : (source : List ℕ) (tokens : List Token) (at : ℕ) {a : List Sym} {t : List ℕ} {end : ℕ} → r.is_keyword_from (kind_at tokens at) (start_at tokens at) end ≡ false → ReadsRun a t end (rest source tokens at) → r.ReadsItem a (literal.Symbol t) (rest source tokens at)
 run_read source tokens at e x = run_ends (left source tokens at) e x
@@ -156,23 +162,23 @@ run_read source tokens at e x = run_ends (left source tokens at) e x
 -- ---- items
 
 pub no_items : (a : List Sym) (ls : List Literal) → r.ReadsItems a ls ls a
-no_items a ls = record { goes = λ fs tree e. e; }
+no_items a ls = record { goes = λ fs tree e. e }
 
 pub items_more : {a b d : List Sym} {first ls : List Literal} {l : Literal} → r.ReadsItems a first ls b → r.ReadsItem b l d → r.ReadsItems a first (ls ++ l ∷ []) d
-items_more {ls = ls} x y = record { goes = λ fs tree e. y.goes ls fs tree (x.goes fs tree e); }
+items_more {ls = ls} x y = record { goes = λ fs tree e. y.goes ls fs tree (x.goes fs tree e) }
 
 array_step : {a b d : List Sym} {k : Option TokenKind} {t : List ℕ} {at : ℕ} {ls : List Literal} → Front b k t at d → r.is_array_end k ≡ true → r.ReadsItems a [] ls b → r.ReadsArray a (literal.Array ls) d
 unfolding array
-array_step {k = Some kind.ParenClose} one e x = record { inner = λ items fs tree h. x.goes (Holds items ∷ fs) tree h; outer = λ home tg inner fs tree h. x.goes (Waits home tg inner ∷ fs) tree h; }
+array_step {k = Some kind.ParenClose} one e x = record { inner = λ items fs tree h. x.goes (Holds items ∷ fs) tree h; outer = λ home tg inner fs tree h. x.goes (Waits home tg inner ∷ fs) tree h }
 array_step one e x = cc
-array_step none e x = record { inner = λ items fs tree h. stuck (x.goes (Holds items ∷ fs) tree h); outer = λ home tg inner fs tree h. stuck (x.goes (Waits home tg inner ∷ fs) tree h); }
+array_step none e x = record { inner = λ items fs tree h. stuck (x.goes (Holds items ∷ fs) tree h); outer = λ home tg inner fs tree h. stuck (x.goes (Waits home tg inner ∷ fs) tree h) }
 
 pub array_read : (source : List ℕ) (tokens : List Token) (at : ℕ) {a : List Sym} {ls : List Literal} → r.is_array_end (kind_at tokens at) ≡ true → r.ReadsItems a [] ls (rest source tokens at) → r.ReadsArray a (literal.Array ls) (rest source tokens (next tokens at))
 array_read source tokens at e x = array_step (left source tokens at) e x
 
 inner_step : {a b d : List Sym} {k : Option TokenKind} {t : List ℕ} {at : ℕ} {l : Literal} → Front a k t at b → r.is_inner_open k ≡ true → r.ReadsArray b l d → r.ReadsItem a l d
-inner_step {k = Some kind.ArrayOpen} one e x = record { goes = λ items fs tree h. x.inner items fs tree h; }
-inner_step {k = Some kind.ParenOpen} one e x = record { goes = λ items fs tree h. x.inner items fs tree h; }
+inner_step {k = Some kind.ArrayOpen} one e x = record { goes = λ items fs tree h. x.inner items fs tree h }
+inner_step {k = Some kind.ParenOpen} one e x = record { goes = λ items fs tree h. x.inner items fs tree h }
 inner_step one e x = cc
 inner_step none e x = cc
 

@@ -39,7 +39,7 @@ pub target_ends : (source : List ℕ) (tokens : List Token) (at : ℕ) → r.is_
 target_ends source tokens at e = no_target (left source tokens at) (left source tokens (next tokens at)) e
 
 pub no_targets : (a : List Sym) (ns : List Name) → r.ReadsTargets a ns ns a
-no_targets a ns = record { goes = λ home fs tree e. e; }
+no_targets a ns = record { goes = λ home fs tree e. e }
 
 target_role : (home : Home) (fs : List Frame) (tg : List Name) (role : Role) (t : List ℕ) (at : ℕ) (c : List Sym) (tree : Tree)
     → option_and_then (λ next. parse next (Assign ∷ c)) (moved home fs (first_word tg role t at)) ≡ Some tree → parse (Within home (Start (tg ++ name t at ∷ [])), fs) c ≡ Some tree
@@ -49,7 +49,7 @@ target_role home fs tg IsSuper t at c tree e = stuck e
 
 target_step : {a b c d : List Sym} {k k' : Option TokenKind} {t t' : List ℕ} {at at' : ℕ} {first ns : List Name} → Front b k t at c → Front c k' t' at' d → (if r.is_identifier k then r.is_assign k' else false) ≡ true
     → r.ReadsTargets a first ns b → r.ReadsTargets a first (ns ++ name t at ∷ []) d
-target_step {d = d} {k = Some kind.Identifier} {k' = Some kind.Assign} {t = t} {at = at} {ns = ns} one one e x = record { goes = λ home fs tree e. target_role home fs ns (role t) t at d tree (x.goes home fs tree e); }
+target_step {d = d} {k = Some kind.Identifier} {k' = Some kind.Assign} {t = t} {at = at} {ns = ns} one one e x = record { goes = λ home fs tree e. target_role home fs ns (role t) t at d tree (x.goes home fs tree e) }
 target_step {k = Some kind.Identifier} one one e x = cc
 target_step {k = Some kind.Identifier} one none e x = cc
 target_step one f e x = cc
@@ -62,7 +62,7 @@ targets_more source tokens at e x = target_step (left source tokens at) (left so
 -- ---- parameters
 
 pub no_parameters : (a : List Sym) (ns : List Name) → r.ReadsParameters a ns ns a
-no_parameters a ns = record { goes = λ at fs tree e. e; }
+no_parameters a ns = record { goes = λ at fs tree e. e }
 
 colon_opened : (at : ℕ) (ns : List Name) (fs : List Frame) (a : List Sym) → parse (Opened at ns, fs) (Colon ∷ a) ≡ parse (Parameter at ns, fs) a
 colon_opened at [] fs a = refl
@@ -82,7 +82,7 @@ a_parameter none begin ns fs tree e = stuck e
 
 parameter_step : {a b c d : List Sym} {k k' : Option TokenKind} {t t' : List ℕ} {at at' : ℕ} {first ns : List Name} → Front b k t at c → Front c k' t' at' d → r.is_colon k ≡ true
     → r.ReadsParameters a first ns b → r.ReadsParameters a first (ns ++ name t' at' ∷ []) d
-parameter_step {c = c} {k = Some kind.Colon} {ns = ns} one f e x = record { goes = λ begin fs tree e. a_parameter f begin ns fs tree (sym (colon_opened begin ns fs c) ∙ x.goes begin fs tree e); }
+parameter_step {c = c} {k = Some kind.Colon} {ns = ns} one f e x = record { goes = λ begin fs tree e. a_parameter f begin ns fs tree (sym (colon_opened begin ns fs c) ∙ x.goes begin fs tree e) }
 parameter_step one f e x = cc
 parameter_step none f e x = cc
 
@@ -93,7 +93,7 @@ parameters_more source tokens at e x = parameter_step (left source tokens at) (l
 -- ---- temporaries
 
 pub no_names : (a : List Sym) (ns : List Name) → r.ReadsNames a ns ns a
-no_names a ns = record { goes = λ shell fs tree e. e; }
+no_names a ns = record { goes = λ shell fs tree e. e }
 
 name_role : (shell : Shell) (ns : List Name) (fs : List Frame) (role : Role) (t : List ℕ) (at : ℕ) (d : List Sym) (tree : Tree)
     → option_and_then (λ next. parse next d) (temporary_word (level_of shell ns) fs role t at) ≡ Some tree → parse (Temporaries (level_of shell (ns ++ name t at ∷ [])), fs) d ≡ Some tree
@@ -103,7 +103,7 @@ name_role shell ns fs (IsValue p) t at d tree e = stuck e
 name_role shell ns fs IsSuper t at d tree e = stuck e
 
 name_step : {a b d : List Sym} {k : Option TokenKind} {t : List ℕ} {at : ℕ} {first ns : List Name} → Front b k t at d → r.is_identifier k ≡ true → r.ReadsNames a first ns b → r.ReadsNames a first (ns ++ name t at ∷ []) d
-name_step {d = d} {k = Some kind.Identifier} {t = t} {at = at} {ns = ns} one e x = record { goes = λ shell fs tree e. name_role shell ns fs (role t) t at d tree (x.goes shell fs tree e); }
+name_step {d = d} {k = Some kind.Identifier} {t = t} {at = at} {ns = ns} one e x = record { goes = λ shell fs tree e. name_role shell ns fs (role t) t at d tree (x.goes shell fs tree e) }
 name_step one e x = cc
 name_step none e x = cc
 
@@ -113,11 +113,13 @@ names_more source tokens at e x = name_step (left source tokens at) e x
 
 close_step : {a b d : List Sym} {k : Option TokenKind} {t : List ℕ} {at : ℕ} {first ns : List Name} → Front b k t at d → r.is_identifier k ≡ false → r.ReadsNames a first ns b → r.ReadsBetweenBars a first ns d
 close_step {k = Some kind.Identifier} one e x = cc
-close_step {d = d} {k = Some kind.Operator} {t = t} {at = at} {ns = ns} one e x = record { goes = λ shell fs tree h.
-    by_op (λ s. option_and_then (λ next. parse next d) (temporaries (level_of shell ns) fs s) ≡ Some tree → parse (Statements (level_of shell ns) [], fs) d ≡ Some tree) t at
-      (λ y. stuck y) (λ y. stuck y) (λ y. y) (λ y. stuck y) (λ y. stuck y) (x.goes shell fs tree h); }
-close_step one e x = record { goes = λ shell fs tree h. stuck (x.goes shell fs tree h); }
-close_step none e x = record { goes = λ shell fs tree h. stuck (x.goes shell fs tree h); }
+close_step {d = d} {k = Some kind.Operator} {t = t} {at = at} {ns = ns} one e x = record {
+  goes = λ shell fs tree h.
+      by_op (λ s. option_and_then (λ next. parse next d) (temporaries (level_of shell ns) fs s) ≡ Some tree → parse (Statements (level_of shell ns) [], fs) d ≡ Some tree) t at
+      (λ y. stuck y) (λ y. stuck y) (λ y. y) (λ y. stuck y) (λ y. stuck y) (x.goes shell fs tree h);
+}
+close_step one e x = record { goes = λ shell fs tree h. stuck (x.goes shell fs tree h) }
+close_step none e x = record { goes = λ shell fs tree h. stuck (x.goes shell fs tree h) }
 
 pub names_close : (source : List ℕ) (tokens : List Token) (at : ℕ) {a : List Sym} {first ns : List Name} → r.is_identifier (kind_at tokens at) ≡ false → r.ReadsNames a first ns (rest source tokens at) → r.ReadsBetweenBars a first ns (rest source tokens (next tokens at))
 names_close source tokens at e x = close_step (left source tokens at) e x
@@ -139,8 +141,10 @@ three_bars_sign sign.ThreeBars e = refl
 three_bars_sign g e = cc
 
 bar_opens : {a b d : List Sym} {k : Option TokenKind} {t : List ℕ} {at : ℕ} {first ns : List Name} → Front a k t at b → r.is_bar (r.sign_there k t) ≡ true → r.ReadsBetweenBars b first ns d → r.ReadsTemporaries a first ns d
-bar_opens {b = b} {k = Some kind.Operator} {t = t} {at = at} {first = first} one e x = record { goes = λ shell fs tree h.
-    x.goes shell fs tree (subst (λ s. option_and_then (λ next. parse next b) (fresh (level_of shell first) fs s) ≡ Some tree) (known t at sign.Bar (bar_sign (sign_of t) e)) h); }
+bar_opens {b = b} {k = Some kind.Operator} {t = t} {at = at} {first = first} one e x = record {
+  goes = λ shell fs tree h.
+      x.goes shell fs tree (subst (λ s. option_and_then (λ next. parse next b) (fresh (level_of shell first) fs s) ≡ Some tree) (known t at sign.Bar (bar_sign (sign_of t) e)) h);
+}
 bar_opens one e x = cc
 bar_opens none e x = cc
 
@@ -148,8 +152,10 @@ pub bar_read : (source : List ℕ) (tokens : List Token) (at : ℕ) {first ns : 
 bar_read source tokens at e x = bar_opens (left source tokens at) e x
 
 two_bars_stand : {a b : List Sym} {k : Option TokenKind} {t : List ℕ} {at : ℕ} {first : List Name} → Front a k t at b → r.is_two_bars (r.sign_there k t) ≡ true → r.ReadsTemporaries a first first b
-two_bars_stand {b = b} {k = Some kind.Operator} {t = t} {at = at} {first = first} one e = record { goes = λ shell fs tree h.
-    subst (λ s. option_and_then (λ next. parse next b) (fresh (level_of shell first) fs s) ≡ Some tree) (known t at sign.TwoBars (two_bars_sign (sign_of t) e)) h; }
+two_bars_stand {b = b} {k = Some kind.Operator} {t = t} {at = at} {first = first} one e = record {
+  goes = λ shell fs tree h.
+      subst (λ s. option_and_then (λ next. parse next b) (fresh (level_of shell first) fs s) ≡ Some tree) (known t at sign.TwoBars (two_bars_sign (sign_of t) e)) h;
+}
 two_bars_stand one e = cc
 two_bars_stand none e = cc
 
@@ -170,10 +176,12 @@ fresh_sign sign.ThreeBars t at d e f shell ts fs tree h = h
 fresh_sign sign.Plain t at d e f shell ts fs tree h = h
 
 no_bars : {a b : List Sym} {k : Option TokenKind} {t : List ℕ} {at : ℕ} {first : List Name} → Front a k t at b → r.is_bar (r.sign_there k t) ≡ false → r.is_two_bars (r.sign_there k t) ≡ false → r.ReadsTemporaries a first first a
-no_bars {b = b} {k = Some kind.Operator} {t = t} {at = at} {first = first} one e f = record { goes = λ shell fs.
-    subst (λ s. Goes (Fresh (level_of shell first), fs) (s ∷ b) (Statements (level_of shell first) [], fs) (s ∷ b)) (sym (sign_is t at)) (fresh_sign (sign_of t) t at b e f shell first fs); }
-no_bars one e f = record { goes = λ shell fs tree h. h; }
-no_bars {first = first} none e f = record { goes = λ shell fs. fresh_ends shell first fs; }
+no_bars {b = b} {k = Some kind.Operator} {t = t} {at = at} {first = first} one e f = record {
+  goes = λ shell fs.
+      subst (λ s. Goes (Fresh (level_of shell first), fs) (s ∷ b) (Statements (level_of shell first) [], fs) (s ∷ b)) (sym (sign_is t at)) (fresh_sign (sign_of t) t at b e f shell first fs);
+}
+no_bars one e f = record { goes = λ shell fs tree h. h }
+no_bars {first = first} none e f = record { goes = λ shell fs. fresh_ends shell first fs }
 
 pub no_bars_read : (source : List ℕ) (tokens : List Token) (at : ℕ) {first : List Name} → r.is_bar (r.sign_there (kind_at tokens at) (text_at source tokens at)) ≡ false → r.is_two_bars (r.sign_there (kind_at tokens at) (text_at source tokens at)) ≡ false
     → r.ReadsTemporaries (rest source tokens at) first first (rest source tokens at)
@@ -183,17 +191,21 @@ no_bars_read source tokens at e f = no_bars (left source tokens at) e f
 
 unnamed : {a b d : List Sym} {k : Option TokenKind} {t : List ℕ} {at : ℕ} {ts : List Name} → Front a k t at b → r.is_colon k ≡ false → r.ReadsTemporaries a [] ts d → r.ReadsOpening [] a ts d
 unnamed {k = Some kind.Colon} one e x = cc
-unnamed {b = b} {k = Some kind.Operator} {t = t} {at = at} one e x = record { goes = λ begin fs tree h.
-    x.goes (OfBlock begin []) fs tree (by_op (λ s. parse (Opened begin [], fs) (s ∷ b) ≡ Some tree → parse (Fresh (Block begin [] []), fs) (s ∷ b) ≡ Some tree) t at (λ y. y) (λ y. y) (λ y. y) (λ y. y) (λ y. y) h); }
-unnamed one e x = record { goes = λ begin fs tree h. x.goes (OfBlock begin []) fs tree h; }
-unnamed none e x = record { goes = λ begin fs tree h. stuck h; }
+unnamed {b = b} {k = Some kind.Operator} {t = t} {at = at} one e x = record {
+  goes = λ begin fs tree h.
+      x.goes (OfBlock begin []) fs tree (by_op (λ s. parse (Opened begin [], fs) (s ∷ b) ≡ Some tree → parse (Fresh (Block begin [] []), fs) (s ∷ b) ≡ Some tree) t at (λ y. y) (λ y. y) (λ y. y) (λ y. y) (λ y. y) h);
+}
+unnamed one e x = record { goes = λ begin fs tree h. x.goes (OfBlock begin []) fs tree h }
+unnamed none e x = record { goes = λ begin fs tree h. stuck h }
 
 pub unnamed_read : (source : List ℕ) (tokens : List Token) (at : ℕ) {ts : List Name} {d : List Sym} → r.is_colon (kind_at tokens at) ≡ false → r.ReadsTemporaries (rest source tokens at) [] ts d → r.ReadsOpening [] (rest source tokens at) ts d
 unnamed_read source tokens at e x = unnamed (left source tokens at) e x
 
 bar_behind : {a b d : List Sym} {k : Option TokenKind} {t : List ℕ} {at : ℕ} {ts : List Name} → Front a k t at b → r.is_bar (r.sign_there k t) ≡ true → r.ReadsTemporaries b [] ts d → (n : Name) (ns : List Name) → r.ReadsOpening (n ∷ ns) a ts d
-bar_behind {b = b} {k = Some kind.Operator} {t = t} {at = at} one e x n ns = record { goes = λ begin fs tree h.
-    x.goes (OfBlock begin (n ∷ ns)) fs tree (subst (λ s. option_and_then (λ next. parse next b) (opened begin (n ∷ ns) fs s) ≡ Some tree) (known t at sign.Bar (bar_sign (sign_of t) e)) h); }
+bar_behind {b = b} {k = Some kind.Operator} {t = t} {at = at} one e x n ns = record {
+  goes = λ begin fs tree h.
+      x.goes (OfBlock begin (n ∷ ns)) fs tree (subst (λ s. option_and_then (λ next. parse next b) (opened begin (n ∷ ns) fs s) ≡ Some tree) (known t at sign.Bar (bar_sign (sign_of t) e)) h);
+}
 bar_behind one e x n ns = cc
 bar_behind none e x n ns = cc
 
@@ -202,8 +214,10 @@ pub bar_behind_read : (source : List ℕ) (tokens : List Token) (at : ℕ) {ts :
 bar_behind_read source tokens at e x n ns = bar_behind (left source tokens at) e x n ns
 
 two_bars_behind : {a b d : List Sym} {k : Option TokenKind} {t : List ℕ} {at : ℕ} {ts : List Name} → Front a k t at b → r.is_two_bars (r.sign_there k t) ≡ true → r.ReadsBetweenBars b [] ts d → (n : Name) (ns : List Name) → r.ReadsOpening (n ∷ ns) a ts d
-two_bars_behind {b = b} {k = Some kind.Operator} {t = t} {at = at} one e x n ns = record { goes = λ begin fs tree h.
-    x.goes (OfBlock begin (n ∷ ns)) fs tree (subst (λ s. option_and_then (λ next. parse next b) (opened begin (n ∷ ns) fs s) ≡ Some tree) (known t at sign.TwoBars (two_bars_sign (sign_of t) e)) h); }
+two_bars_behind {b = b} {k = Some kind.Operator} {t = t} {at = at} one e x n ns = record {
+  goes = λ begin fs tree h.
+      x.goes (OfBlock begin (n ∷ ns)) fs tree (subst (λ s. option_and_then (λ next. parse next b) (opened begin (n ∷ ns) fs s) ≡ Some tree) (known t at sign.TwoBars (two_bars_sign (sign_of t) e)) h);
+}
 two_bars_behind one e x n ns = cc
 two_bars_behind none e x n ns = cc
 
@@ -212,8 +226,10 @@ pub two_bars_behind_read : (source : List ℕ) (tokens : List Token) (at : ℕ) 
 two_bars_behind_read source tokens at e x n ns = two_bars_behind (left source tokens at) e x n ns
 
 three_bars_behind : {a b : List Sym} {k : Option TokenKind} {t : List ℕ} {at : ℕ} → Front a k t at b → r.is_three_bars (r.sign_there k t) ≡ true → (n : Name) (ns : List Name) → r.ReadsOpening (n ∷ ns) a [] b
-three_bars_behind {b = b} {k = Some kind.Operator} {t = t} {at = at} one e n ns = record { goes = λ begin fs tree h.
-    subst (λ s. option_and_then (λ next. parse next b) (opened begin (n ∷ ns) fs s) ≡ Some tree) (known t at sign.ThreeBars (three_bars_sign (sign_of t) e)) h; }
+three_bars_behind {b = b} {k = Some kind.Operator} {t = t} {at = at} one e n ns = record {
+  goes = λ begin fs tree h.
+      subst (λ s. option_and_then (λ next. parse next b) (opened begin (n ∷ ns) fs s) ≡ Some tree) (known t at sign.ThreeBars (three_bars_sign (sign_of t) e)) h;
+}
 three_bars_behind one e n ns = cc
 three_bars_behind none e n ns = cc
 
@@ -231,18 +247,20 @@ other_sign sign.Plain t at d e f g n ns begin fs tree h = stuck h
 nothing_behind : {a b : List Sym} {k : Option TokenKind} {t : List ℕ} {at : ℕ} → Front a k t at b → r.is_colon k ≡ false → r.is_bar (r.sign_there k t) ≡ false → r.is_two_bars (r.sign_there k t) ≡ false → r.is_three_bars (r.sign_there k t) ≡ false
     → (n : Name) (ns : List Name) → r.ReadsOpening (n ∷ ns) a [] a
 nothing_behind {k = Some kind.Colon} one c e f g n ns = cc
-nothing_behind {b = b} {k = Some kind.Operator} {t = t} {at = at} one c e f g n ns = record { goes = λ begin fs.
-    subst (λ s. Goes (Opened begin (n ∷ ns), fs) (s ∷ b) (Statements (Block begin (n ∷ ns) []) [], fs) (s ∷ b)) (sym (sign_is t at)) (other_sign (sign_of t) t at b e f g n ns begin fs); }
-nothing_behind {k = Some kind.BlockClose} one c e f g n ns = record { goes = λ begin fs tree h. h; }
-nothing_behind one c e f g n ns = record { goes = λ begin fs tree h. stuck h; }
-nothing_behind none c e f g n ns = record { goes = λ begin fs tree h. stuck h; }
+nothing_behind {b = b} {k = Some kind.Operator} {t = t} {at = at} one c e f g n ns = record {
+  goes = λ begin fs.
+      subst (λ s. Goes (Opened begin (n ∷ ns), fs) (s ∷ b) (Statements (Block begin (n ∷ ns) []) [], fs) (s ∷ b)) (sym (sign_is t at)) (other_sign (sign_of t) t at b e f g n ns begin fs);
+}
+nothing_behind {k = Some kind.BlockClose} one c e f g n ns = record { goes = λ begin fs tree h. h }
+nothing_behind one c e f g n ns = record { goes = λ begin fs tree h. stuck h }
+nothing_behind none c e f g n ns = record { goes = λ begin fs tree h. stuck h }
 
 pub nothing_behind_read : (source : List ℕ) (tokens : List Token) (at : ℕ) → r.is_colon (kind_at tokens at) ≡ false → r.is_bar (r.sign_there (kind_at tokens at) (text_at source tokens at)) ≡ false → r.is_two_bars (r.sign_there (kind_at tokens at) (text_at source tokens at)) ≡ false
     → r.is_three_bars (r.sign_there (kind_at tokens at) (text_at source tokens at)) ≡ false → (n : Name) (ns : List Name) → r.ReadsOpening (n ∷ ns) (rest source tokens at) [] (rest source tokens at)
 nothing_behind_read source tokens at c e f g n ns = nothing_behind (left source tokens at) c e f g n ns
 
 pub head_read : {a b d : List Sym} {ns ts : List Name} → r.ReadsParameters a [] ns b → r.ReadsOpening ns b ts d → r.ReadsHead a ns ts d
-head_read x y = record { goes = λ begin fs tree h. y.goes begin fs tree (x.goes begin fs tree h); }
+head_read x y = record { goes = λ begin fs tree h. y.goes begin fs tree (x.goes begin fs tree h) }
 
 pub named_opening : {a b : List Sym} {ts : List Name} (ps : List Name) → r.is_named ps ≡ true → ((n : Name) (ns : List Name) → r.ReadsOpening (n ∷ ns) a ts b) → r.ReadsOpening ps a ts b
 named_opening [] e x = cc
@@ -280,10 +298,10 @@ pub part_read : (source : List ℕ) (tokens : List Token) (at : ℕ) {text : Lis
 part_read source tokens at e = part_step (left source tokens at) (left source tokens (next tokens at)) e
 
 pub heading_first : {a b : List Sym} {text : List ℕ} {ns : List Name} → r.ReadsPart a [] [] text ns b → r.ReadsHeading a text ns b
-heading_first x = record { goes = λ fs tree h. x.first refl refl fs tree h; }
+heading_first x = record { goes = λ fs tree h. x.first refl refl fs tree h }
 
 pub heading_more : {a b d : List Sym} {text text' : List ℕ} {ns ns' : List Name} → r.ReadsHeading a text ns b → r.ReadsPart b text ns text' ns' d → r.ReadsHeading a text' ns' d
-heading_more x y = record { goes = λ fs tree h. y.more fs tree (x.goes fs tree h); }
+heading_more x y = record { goes = λ fs tree h. y.more fs tree (x.goes fs tree h) }
 
 heading_ends : {b d : List Sym} {k : Option TokenKind} {t : List ℕ} {at : ℕ} → Front b k t at d → r.is_keyword k ≡ false → (text : List ℕ) (ns : List Name) (fs : List Frame) → Goes (ParameterRead text ns, fs) b (Fresh (Top (Headed text ns) []), fs) b
 heading_ends {k = Some kind.Keyword} one e text ns fs tree h = cc
@@ -293,7 +311,7 @@ heading_ends none e text ns [] tree h = h
 heading_ends none e text ns (f ∷ fs) tree h = h
 
 pub keywords_pattern : (source : List ℕ) (tokens : List Token) (at : ℕ) {a : List Sym} {text : List ℕ} {ns : List Name} → r.is_keyword (kind_at tokens at) ≡ false → r.ReadsHeading a text ns (rest source tokens at) → r.ReadsPattern a text ns (rest source tokens at)
-keywords_pattern source tokens at {text = text} {ns = ns} e x = record { goes = λ fs tree h. heading_ends (left source tokens at) e text ns fs tree (x.goes fs tree h); }
+keywords_pattern source tokens at {text = text} {ns = ns} e x = record { goes = λ fs tree h. heading_ends (left source tokens at) e text ns fs tree (x.goes fs tree h) }
 
 operator_goes : {s : Sym} {t : List ℕ} {at : ℕ} → IsOp s t at → (fs : List Frame) (b : List Sym) → Goes (Pattern, fs) (s ∷ b) (OperatorRead t, fs) b
 operator_goes op fs b tree h = h
@@ -315,7 +333,7 @@ an_operator_name one t fs tree e = stuck e
 an_operator_name none t fs tree e = stuck e
 
 binary_step : {a b c : List Sym} {k k' : Option TokenKind} {t t' : List ℕ} {at at' : ℕ} → Front a k t at b → Front b k' t' at' c → r.is_operator k ≡ true → r.ReadsPattern a t (name t' at' ∷ []) c
-binary_step {b = b} {k = Some kind.Operator} {t = t} {at = at} one f e = record { goes = λ fs tree h. an_operator_name f t fs tree (operator_goes (is_op t at) fs b tree h); }
+binary_step {b = b} {k = Some kind.Operator} {t = t} {at = at} one f e = record { goes = λ fs tree h. an_operator_name f t fs tree (operator_goes (is_op t at) fs b tree h) }
 binary_step one f e = cc
 binary_step none f e = cc
 
@@ -324,11 +342,11 @@ pub binary_pattern : (source : List ℕ) (tokens : List Token) (at : ℕ) → r.
 binary_pattern source tokens at e = binary_step (left source tokens at) (left source tokens (next tokens at)) e
 
 unary_step : {a b : List Sym} {k : Option TokenKind} {t : List ℕ} {at : ℕ} → Front a k t at b → r.is_keyword k ≡ false → r.is_operator k ≡ false → r.ReadsPattern a t [] b
-unary_step {k = Some kind.Identifier} one e f = record { goes = λ fs tree h. h; }
+unary_step {k = Some kind.Identifier} one e f = record { goes = λ fs tree h. h }
 unary_step {k = Some kind.Keyword} one e f = cc
 unary_step {k = Some kind.Operator} one e f = cc
-unary_step one e f = record { goes = λ fs tree h. stuck h; }
-unary_step none e f = record { goes = λ fs tree h. stuck h; }
+unary_step one e f = record { goes = λ fs tree h. stuck h }
+unary_step none e f = record { goes = λ fs tree h. stuck h }
 
 pub unary_pattern : (source : List ℕ) (tokens : List Token) (at : ℕ) → r.is_keyword (kind_at tokens at) ≡ false → r.is_operator (kind_at tokens at) ≡ false
     → r.ReadsPattern (rest source tokens at) (text_at source tokens at) [] (rest source tokens (next tokens at))

@@ -44,10 +44,11 @@ pub left : (source : List ℕ) (tokens : List Token) (at : ℕ)
     → Front (rest source tokens at) (kind_at tokens at) (text_at source tokens at) (start_at tokens at) (rest source tokens (next tokens at))
 unfolding kind_at text_at start_at
 left source tokens at = elim (slice_get_cases tokens at).1 [
-    inl x ↦ subst (λ o. Front (rest source tokens at) (kind_there o) (text_there source o) (start_there o) (rest source tokens (next tokens at))) (sym x.2)
-        (from_some source x.0 _ _ (there source tokens at x.0 x.1 x.3 ∙ ap (λ n. sym_of source x.0 ∷ rest source tokens n) (sym (next_is tokens at x.1))))
+  | inl x ↦ subst (λ o. Front (rest source tokens at) (kind_there o) (text_there source o) (start_there o) (rest source tokens (next tokens at))) (sym x.2)
+      (from_some source x.0 _ _ (there source tokens at x.0 x.1 x.3 ∙ ap (λ n. sym_of source x.0 ∷ rest source tokens n) (sym (next_is tokens at x.1))))
   | inr y ↦ subst (λ o. Front (rest source tokens at) (kind_there o) (text_there source o) (start_there o) (rest source tokens (next tokens at))) (sym y.1)
-        (from_none _ _ _ _ (past source tokens at y.0) (ap (rest source tokens) (next_past tokens at y.0) ∙ past source tokens at y.0)) ]
+      (from_none _ _ _ _ (past source tokens at y.0) (ap (rest source tokens) (next_past tokens at y.0) ∙ past source tokens at y.0))
+]
 
 pub ahead : (tokens : List Token) (at : ℕ) → at ≤ next tokens at
 ahead tokens at = go (nat_lt at (length tokens))

@@ -26,10 +26,10 @@ use Rattle.st_parser.proofs.ArraySteps.{stuck}
 use Rattle.st_parser.proofs.NameSteps.{op_stuck}
 
 pub no_unaries : (a : List Sym) (ms : List Message) → ReadsUnaries a ms ms a
-no_unaries a ms = record { goes = λ home fs tg inner p tree e. e; }
+no_unaries a ms = record { goes = λ home fs tg inner p tree e. e }
 
 unary_more : {a b d : List Sym} {k : Option TokenKind} {t : List ℕ} {at : ℕ} {first ms : List Message} → Front b k t at d → r.is_identifier k ≡ true → ReadsUnaries a first ms b → ReadsUnaries a first (ms ++ message t at [] ∷ []) d
-unary_more {k = Some kind.Identifier} one e u = record { goes = λ home fs tg inner p tree e. u.goes home fs tg inner p tree e; }
+unary_more {k = Some kind.Identifier} one e u = record { goes = λ home fs tg inner p tree e. u.goes home fs tg inner p tree e }
 unary_more one e u = cc
 unary_more none e u = cc
 
@@ -80,7 +80,7 @@ binary_ends source tokens at e h = not_binary (left source tokens at) e h
 -- ---- operands and binary messages
 
 pub unit : {a b d : List Sym} {p : Primary} {ms : List Message} → r.ReadsPrimary a p b → r.ReadsUnaries b [] ms d → r.ReadsUnit a (operand p ms) d
-unit {p = p} {ms = ms} x u = record { primary = p; chain = ms; is = refl; goes = λ home fs tg inner tree e. u.goes home fs tg inner p tree (x.goes home fs tg inner tree e); }
+unit {p = p} {ms = ms} x u = record { primary = p; chain = ms; is = refl; goes = λ home fs tg inner tree e. u.goes home fs tg inner p tree (x.goes home fs tg inner tree e) }
 
 close_again : (home : Home) (fs : List Frame) (tg : List Name) (o : Operand) (cs : List Message) (s : Selector) (p : Primary) (ch : List Message) (b : List Sym) → NotId b
     → Goes (Within home (Have tg (FurtherRight o cs s) p ch), fs) b (Within home (Sent tg o (with_binary cs s p ch)), fs) b
@@ -108,22 +108,22 @@ pub binary : (source : List ℕ) (tokens : List Token) (at : ℕ) {o : Operand} 
 binary source tokens at e u h = binary_of (left source tokens at) e u h
 
 pub no_binaries : (a : List Sym) (ms : List Message) → r.ReadsBinaries a ms ms a
-no_binaries a ms = record { goes = λ home fs tg outer p tree e. e; }
+no_binaries a ms = record { goes = λ home fs tg outer p tree e. e }
 
 pub binaries_more : {a b d : List Sym} {first ms : List Message} {m : Message} → r.ReadsBinaries a first ms b → r.ReadsBinary b m d → r.ReadsBinaries a first (ms ++ m ∷ []) d
-binaries_more {ms = ms} x y = record { goes = λ home fs tg outer p tree e. y.goes home fs tg outer p ms tree (x.goes home fs tg outer p tree e); }
+binaries_more {ms = ms} x y = record { goes = λ home fs tg outer p tree e. y.goes home fs tg outer p ms tree (x.goes home fs tg outer p tree e) }
 
 pub messages : {a b d : List Sym} {first ms all : List Message} → ReadsUnaries a first ms b → r.ReadsBinaries b ms all d → r.ReadsBinaries a first all d
-messages u x = record { goes = λ home fs tg outer p tree e. x.goes home fs tg outer p tree (u.goes home fs tg (Plain outer) p tree e); }
+messages u x = record { goes = λ home fs tg outer p tree e. x.goes home fs tg outer p tree (u.goes home fs tg (Plain outer) p tree e) }
 
 pub argument : {a b d : List Sym} {p : Primary} {ms : List Message} → r.ReadsPrimary a p b → r.ReadsBinaries b [] ms d → r.ReadsArgument a (operand p ms) d
-argument {p = p} {ms = ms} x u = record { primary = p; chain = ms; is = refl; goes = λ home fs tg outer tree e. u.goes home fs tg outer p tree (x.goes home fs tg (Plain outer) tree e); }
+argument {p = p} {ms = ms} x u = record { primary = p; chain = ms; is = refl; goes = λ home fs tg outer tree e. u.goes home fs tg outer p tree (x.goes home fs tg (Plain outer) tree e) }
 
 -- ---- keyword messages
 
 keyword_of : {a b d : List Sym} {k : Option TokenKind} {t : List ℕ} {at : ℕ} {o : Operand} {text : List ℕ} {os : List Operand} → Front a k t at b → r.is_keyword k ≡ true → r.ReadsArgument b o d
     → r.ReadsKeyword a at text os (text ++ t) (os ++ o ∷ []) d
-keyword_of {b = b} {k = Some kind.Keyword} {t = t} {os = os} one e u = record { word = t; after = b; primary = u.primary; chain = u.chain; begins = refl; text_is = refl; arguments = ap (λ o. os ++ o ∷ []) u.is; goes = u.goes; }
+keyword_of {b = b} {k = Some kind.Keyword} {t = t} {os = os} one e u = record { word = t; after = b; primary = u.primary; chain = u.chain; begins = refl; text_is = refl; arguments = ap (λ o. os ++ o ∷ []) u.is; goes = u.goes }
 keyword_of one e u = cc
 keyword_of none e u = cc
 
@@ -132,21 +132,37 @@ pub keyword : (source : List ℕ) (tokens : List Token) (at : ℕ) {o : Operand}
 keyword source tokens at e u = keyword_of (left source tokens at) e u
 
 pub so_far : {a b : List Sym} {at : ℕ} {text : List ℕ} {os : List Operand} → r.ReadsKeyword a at [] [] text os b → SoFar a at text os b
-so_far {b = b} {at = at} k = record { word = k.word; after = k.after; before = []; primary = k.primary; chain = k.chain; begins = k.begins; arguments = k.arguments;
-  goes = λ home fs tg left tree e. subst (λ t. parse (Within home (Have tg (Plain (Argument left (selector t at) [])) k.primary k.chain), fs) b ≡ Some tree) (sym k.text_is) (k.goes home fs tg (Argument left (selector k.word at) []) tree e); }
+so_far {b = b} {at = at} k = record {
+  word = k.word;
+  after = k.after;
+  before = [];
+  primary = k.primary;
+  chain = k.chain;
+  begins = k.begins;
+  arguments = k.arguments;
+  goes = λ home fs tg left tree e. subst (λ t. parse (Within home (Have tg (Plain (Argument left (selector t at) [])) k.primary k.chain), fs) b ≡ Some tree) (sym k.text_is) (k.goes home fs tg (Argument left (selector k.word at) []) tree e);
+}
 
 key_step : (at : ℕ) {a d : List Sym} {at' : ℕ} {text text' : List ℕ} {os os' : List Operand} (home : Home) (fs : List Frame) (tg : List Name) (left : Left) (before : List Operand) (p : Primary) (ch : List Message)
     → os ≡ before ++ operand p ch ∷ [] → (k : r.ReadsKeyword a at' text os text' os' d)
     → Goes (Within home (Have tg (Plain (Argument left (selector text at) before)) p ch), fs) a (Within home (Have tg (Plain (Argument left (selector text' at) os)) k.primary k.chain), fs) d
 key_step at {d = d} {at' = at'} {text = text} {text' = text'} {os = os} home fs tg lf before p ch e k tree h =
-  let h1 : parse (Within home (Have tg (Plain (Argument lf (selector text at) before)) p ch), fs) (Key k.word at' ∷ k.after) ≡ Some tree = subst (λ x. parse (Within home (Have tg (Plain (Argument lf (selector text at) before)) p ch), fs) x ≡ Some tree) k.begins h in
-  let h2 = k.goes home fs tg (Argument lf (selector (text ++ k.word) at) (before ++ operand p ch ∷ [])) tree h1 in
-  let h3 : parse (Within home (Have tg (Plain (Argument lf (selector text' at) (before ++ operand p ch ∷ []))) k.primary k.chain), fs) d ≡ Some tree = subst (λ t. parse (Within home (Have tg (Plain (Argument lf (selector t at) (before ++ operand p ch ∷ []))) k.primary k.chain), fs) d ≡ Some tree) (sym k.text_is) h2 in
-  subst (λ x. parse (Within home (Have tg (Plain (Argument lf (selector text' at) x)) k.primary k.chain), fs) d ≡ Some tree) (sym e) h3
+    let h1 : parse (Within home (Have tg (Plain (Argument lf (selector text at) before)) p ch), fs) (Key k.word at' ∷ k.after) ≡ Some tree = subst (λ x. parse (Within home (Have tg (Plain (Argument lf (selector text at) before)) p ch), fs) x ≡ Some tree) k.begins h in
+    let h2 = k.goes home fs tg (Argument lf (selector (text ++ k.word) at) (before ++ operand p ch ∷ [])) tree h1 in
+    let h3 : parse (Within home (Have tg (Plain (Argument lf (selector text' at) (before ++ operand p ch ∷ []))) k.primary k.chain), fs) d ≡ Some tree = subst (λ t. parse (Within home (Have tg (Plain (Argument lf (selector t at) (before ++ operand p ch ∷ []))) k.primary k.chain), fs) d ≡ Some tree) (sym k.text_is) h2 in
+    subst (λ x. parse (Within home (Have tg (Plain (Argument lf (selector text' at) x)) k.primary k.chain), fs) d ≡ Some tree) (sym e) h3
 
 pub so_far_more : {a b d : List Sym} {at at' : ℕ} {text text' : List ℕ} {os os' : List Operand} → SoFar a at text os b → r.ReadsKeyword b at' text os text' os' d → SoFar a at text' os' d
-so_far_more {at = at} {os = os} s k = record { word = s.word; after = s.after; before = os; primary = k.primary; chain = k.chain; begins = s.begins; arguments = k.arguments;
-  goes = λ home fs tg left tree e. key_step at home fs tg left s.before s.primary s.chain s.arguments k tree (s.goes home fs tg left tree e); }
+so_far_more {at = at} {os = os} s k = record {
+  word = s.word;
+  after = s.after;
+  before = os;
+  primary = k.primary;
+  chain = k.chain;
+  begins = s.begins;
+  arguments = k.arguments;
+  goes = λ home fs tg left tree e. key_step at home fs tg left s.before s.primary s.chain s.arguments k tree (s.goes home fs tg left tree e);
+}
 
 close_argument : (home : Home) (fs : List Frame) (tg : List Name) (left : Left) (s : Selector) (os : List Operand) (p : Primary) (ch : List Message) (b : List Sym) → r.NotBinary b → NotKey b
     → let w = finish_left tg left (message s.text s.at (os ++ operand p ch ∷ [])) in
@@ -169,7 +185,7 @@ all_keywords : {a b : List Sym} {at : ℕ} {text : List ℕ} {os : List Operand}
     → let w = finish_left tg left (message text at os) in
     Goes (Within home (Want tg (Plain (Argument left (selector s.word at) []))), fs) s.after (Within home (Sent w.targets w.receiver w.cascade), fs) b
 all_keywords {b = b} {at = at} {text = text} {os = os} s h k home fs tg left tree e =
-  subst (λ x. let w = finish_left tg left (message text at x) in parse (Within home (Sent w.targets w.receiver w.cascade), fs) b ≡ Some tree) (sym s.arguments)
+    subst (λ x. let w = finish_left tg left (message text at x) in parse (Within home (Sent w.targets w.receiver w.cascade), fs) b ≡ Some tree) (sym s.arguments)
     (close_argument home fs tg left (selector text at) s.before s.primary s.chain b h k tree (s.goes home fs tg left tree e))
 
 pub keywords : {a b : List Sym} {at : ℕ} {text : List ℕ} {os : List Operand} → SoFar a at text os b → r.NotBinary b → NotKey b → r.ReadsKeywords a (message text at os) b
@@ -198,13 +214,13 @@ close_receiver home fs tg p (m ∷ ms) (Semicolon ∷ b) h k tree e = e
 close_receiver home fs tg p ms (x ∷ b) h k tree e = stuck e
 
 pub short : (b : List Sym) (ms : List Message) → r.NotBinary b → NotKey b → r.ReadsLong b ms ms b
-short b ms h k = record { goes = λ home fs tg p tree e. close_receiver home fs tg p ms b h k tree e; }
+short b ms h k = record { goes = λ home fs tg p tree e. close_receiver home fs tg p ms b h k tree e }
 
 pub long : {a b : List Sym} {m : Message} (ms : List Message) → r.ReadsKeywords a m b → r.ReadsLong a ms (ms ++ m ∷ []) b
-long ms k = record { goes = λ home fs tg p tree e. k.goes home fs tg p ms tree e; }
+long ms k = record { goes = λ home fs tg p tree e. k.goes home fs tg p ms tree e }
 
 pub receiver : {a b c d : List Sym} {p : Primary} {ms all : List Message} → r.ReadsPrimary a p b → r.ReadsBinaries b [] ms c → r.ReadsLong c ms all d → r.ReadsReceiver a (operand p all) d
-receiver {p = p} x u l = record { goes = λ home fs tg tree e. l.goes home fs tg p tree (u.goes home fs tg Receiver p tree (x.goes home fs tg (Plain Receiver) tree e)); }
+receiver {p = p} x u l = record { goes = λ home fs tg tree e. l.goes home fs tg p tree (u.goes home fs tg Receiver p tree (x.goes home fs tg (Plain Receiver) tree e)) }
 
 -- ---- cascades
 
@@ -232,31 +248,31 @@ stuck_on : {X : Type 0} {tree : Tree} {m : Option State} (a : List Sym) → m �
 stuck_on a e h = stuck (sym (ap (option_and_then (λ next. parse next a)) e) ∙ h)
 
 unary_again : {a d : List Sym} {k : Option TokenKind} {t : List ℕ} {at : ℕ} → Front a k t at d → r.is_operator k ≡ false → r.is_keyword k ≡ false → r.ReadsAgain a (message t at []) d
-unary_again {k = Some kind.Identifier} one e f = record { goes = λ home fs tg r cs tree e. e; }
+unary_again {k = Some kind.Identifier} one e f = record { goes = λ home fs tg r cs tree e. e }
 unary_again {k = Some kind.Operator} one e f = cc
 unary_again {k = Some kind.Keyword} one e f = cc
-unary_again {d = d} {k = Some kind.ParenClose} one e f = record { goes = λ home fs tg r cs tree e. stuck_on d (no_paren home fs) e; }
-unary_again {d = d} {k = Some kind.BlockClose} one e f = record { goes = λ home fs tg r cs tree e. stuck_on d (no_block home fs) e; }
-unary_again {d = d} {k = Some kind.Period} one e f = record { goes = λ home fs tg r cs tree e. stuck_on d (no_period home fs) e; }
-unary_again one e f = record { goes = λ home fs tg r cs tree e. stuck e; }
-unary_again none e f = record { goes = λ home fs tg r cs tree e. stuck (sym (no_accept home fs) ∙ e); }
+unary_again {d = d} {k = Some kind.ParenClose} one e f = record { goes = λ home fs tg r cs tree e. stuck_on d (no_paren home fs) e }
+unary_again {d = d} {k = Some kind.BlockClose} one e f = record { goes = λ home fs tg r cs tree e. stuck_on d (no_block home fs) e }
+unary_again {d = d} {k = Some kind.Period} one e f = record { goes = λ home fs tg r cs tree e. stuck_on d (no_period home fs) e }
+unary_again one e f = record { goes = λ home fs tg r cs tree e. stuck e }
+unary_again none e f = record { goes = λ home fs tg r cs tree e. stuck (sym (no_accept home fs) ∙ e) }
 
 pub again_unary : (source : List ℕ) (tokens : List Token) (at : ℕ) → r.is_operator (kind_at tokens at) ≡ false → r.is_keyword (kind_at tokens at) ≡ false
     → r.ReadsAgain (rest source tokens at) (message (text_at source tokens at) (start_at tokens at) []) (rest source tokens (next tokens at))
 again_unary source tokens at e f = unary_again (left source tokens at) e f
 
 pub again_binary : {a b : List Sym} {m : Message} → r.ReadsBinary a m b → r.ReadsAgain a m b
-again_binary x = record { goes = λ home fs tg o cs tree e. x.again home fs tg o cs tree e; }
+again_binary x = record { goes = λ home fs tg o cs tree e. x.again home fs tg o cs tree e }
 
 pub again_keywords : {a b : List Sym} {m : Message} → r.ReadsKeywords a m b → r.ReadsAgain a m b
-again_keywords x = record { goes = λ home fs tg o cs tree e. x.again home fs tg o cs tree e; }
+again_keywords x = record { goes = λ home fs tg o cs tree e. x.again home fs tg o cs tree e }
 
 pub no_cascade : (a : List Sym) (ms : List Message) → r.ReadsCascade a ms ms a
-no_cascade a ms = record { goes = λ home fs tg o tree e. e; }
+no_cascade a ms = record { goes = λ home fs tg o tree e. e }
 
 cascade_step : {a b c d : List Sym} {k : Option TokenKind} {t : List ℕ} {at : ℕ} {first ms : List Message} {m : Message} → Front b k t at c → r.is_semicolon k ≡ true
     → r.ReadsCascade a first ms b → r.ReadsAgain c m d → r.ReadsCascade a first (ms ++ m ∷ []) d
-cascade_step {k = Some kind.Semicolon} {ms = ms} one e x y = record { goes = λ home fs tg o tree e. y.goes home fs tg o ms tree (x.goes home fs tg o tree e); }
+cascade_step {k = Some kind.Semicolon} {ms = ms} one e x y = record { goes = λ home fs tg o tree e. y.goes home fs tg o ms tree (x.goes home fs tg o tree e) }
 cascade_step one e x y = cc
 cascade_step none e x y = cc
 
@@ -283,8 +299,14 @@ begins_operand home fs tg (Id t at ∷ b) h tree e = operand_role home fs tg (ro
 begins_operand home fs tg (x ∷ b) h tree e = e
 
 pub expr_read : {a b c d : List Sym} {ns : List Name} {o : Operand} {cs : List Message} → r.ReadsTargets a [] ns b → r.NoTarget b → r.ReadsReceiver b o c → r.ReadsCascade c [] cs d → r.NotSemicolon d → r.ReadsExpr a (expr ns o cs) d
-expr_read {b = b} {ns = ns} {o = o} {cs = cs} x h y z stops = record { targets = ns; receiver = o; cascade = cs; is = refl; stops = stops;
-  goes = λ home fs tree e. z.goes home fs ns o tree (y.goes home fs ns tree (begins_operand home fs ns b h tree (x.goes home fs tree e))); }
+expr_read {b = b} {ns = ns} {o = o} {cs = cs} x h y z stops = record {
+  targets = ns;
+  receiver = o;
+  cascade = cs;
+  is = refl;
+  stops = stops;
+  goes = λ home fs tree e. z.goes home fs ns o tree (y.goes home fs ns tree (begins_operand home fs ns b h tree (x.goes home fs tree e)));
+}
 
 -- ---- primaries
 
@@ -298,7 +320,7 @@ close_parens none h home tg' inner fs tg o cs tree e = stuck e
 
 pub in_parens : (source : List ℕ) (tokens : List Token) (at : ℕ) {a : List Sym} {e : Expr} → r.ReadsExpr a e (rest source tokens at) → r.ReadsInParens a (paren e) (rest source tokens (next tokens at))
 in_parens source tokens at {a = a} {e = e} x = subst (λ e. r.ReadsInParens a (paren e) (rest source tokens (next tokens at))) (sym x.is)
-  (record { goes = λ home tg inner fs tree h. close_parens (left source tokens at) x.stops home tg inner fs x.targets x.receiver x.cascade tree (x.goes Paren (Waits home tg inner ∷ fs) tree h); })
+    (record { goes = λ home tg inner fs tree h. close_parens (left source tokens at) x.stops home tg inner fs x.targets x.receiver x.cascade tree (x.goes Paren (Waits home tg inner ∷ fs) tree h) })
 
 close_brackets : {b d : List Sym} {k : Option TokenKind} {t : List ℕ} {at : ℕ} → Front b k t at d → (home : Home) (tg : List Name) (inner : Inner) (fs : List Frame) (begin : ℕ) (ns ts : List Name) (done : List Statement)
     → Goes (Ended (Block begin ns ts) done, Waits home tg inner ∷ fs) b (Within home (Have tg inner (block begin ns ts done) []), fs) d
@@ -309,11 +331,13 @@ close_brackets none home tg inner fs begin ns ts done tree e = stuck e
 
 pub in_brackets : (source : List ℕ) (tokens : List Token) (at begin : ℕ) {a b : List Sym} {ns ts : List Name} {done : List Statement} → r.ReadsHead a ns ts b → r.ReadsStatements b [] done (rest source tokens at)
     → r.ReadsBlock begin a (block begin ns ts done) (rest source tokens (next tokens at))
-in_brackets source tokens at begin {ns = ns} {ts = ts} {done = done} x y = record { goes = λ home tg inner fs tree h.
-    close_brackets (left source tokens at) home tg inner fs begin ns ts done tree (y.goes (Block begin ns ts) (Waits home tg inner ∷ fs) tree (x.goes begin (Waits home tg inner ∷ fs) tree h)); }
+in_brackets source tokens at begin {ns = ns} {ts = ts} {done = done} x y = record {
+  goes = λ home tg inner fs tree h.
+      close_brackets (left source tokens at) home tg inner fs begin ns ts done tree (y.goes (Block begin ns ts) (Waits home tg inner ∷ fs) tree (x.goes begin (Waits home tg inner ∷ fs) tree h));
+}
 
 paren_step : {a b d : List Sym} {k : Option TokenKind} {t : List ℕ} {at : ℕ} {p : Primary} → Front a k t at b → r.is_paren_open k ≡ true → r.ReadsInParens b p d → r.ReadsPrimary a p d
-paren_step {k = Some kind.ParenOpen} one e x = record { goes = λ home fs tg inner tree h. x.goes home tg inner fs tree h; }
+paren_step {k = Some kind.ParenOpen} one e x = record { goes = λ home fs tg inner tree h. x.goes home tg inner fs tree h }
 paren_step one e x = cc
 paren_step none e x = cc
 
@@ -321,7 +345,7 @@ pub paren_read : (source : List ℕ) (tokens : List Token) (at : ℕ) {p : Prima
 paren_read source tokens at e x = paren_step (left source tokens at) e x
 
 block_step : {a b d : List Sym} {k : Option TokenKind} {t : List ℕ} {at : ℕ} {p : Primary} → Front a k t at b → r.is_block_open k ≡ true → r.ReadsBlock at b p d → r.ReadsPrimary a p d
-block_step {k = Some kind.BlockOpen} one e x = record { goes = λ home fs tg inner tree h. x.goes home tg inner fs tree h; }
+block_step {k = Some kind.BlockOpen} one e x = record { goes = λ home fs tg inner tree h. x.goes home tg inner fs tree h }
 block_step one e x = cc
 block_step none e x = cc
 
@@ -329,7 +353,7 @@ pub block_read : (source : List ℕ) (tokens : List Token) (at : ℕ) {p : Prima
 block_read source tokens at e x = block_step (left source tokens at) e x
 
 array_step : {a b d : List Sym} {k : Option TokenKind} {t : List ℕ} {at : ℕ} {l : Literal} → Front a k t at b → r.is_array_open k ≡ true → r.ReadsArray b l d → r.ReadsPrimary a (constant l) d
-array_step {k = Some kind.ArrayOpen} one e x = record { goes = λ home fs tg inner tree h. x.outer home tg inner fs tree h; }
+array_step {k = Some kind.ArrayOpen} one e x = record { goes = λ home fs tg inner tree h. x.outer home tg inner fs tree h }
 array_step one e x = cc
 array_step none e x = cc
 
@@ -361,9 +385,11 @@ after_sign one end home fs tg inner tree h = stuck h
 after_sign none end home fs tg inner tree h = stuck (sym (no_accept home fs) ∙ h)
 
 negative_step : {a c d : List Sym} {k k' : Option TokenKind} {t t' : List ℕ} {at at' : ℕ} → Front a k t at c → Front c k' t' at' d → r.is_operator k ≡ true → r.ReadsPrimary a (constant (r.negated_of k')) d
-negative_step {c = c} {d = d} {k = Some kind.Operator} {k' = k'} {t = t} {at = at} one f e = record { goes = λ home fs tg inner tree h.
-    by_op (λ s. parse (Within home (Want tg inner), fs) (s ∷ c) ≡ Some tree → parse (Within home (Have tg inner (constant (r.negated_of k')) []), fs) d ≡ Some tree) t at
-      (λ y. stuck y) (λ y. after_sign f (at + 1) home fs tg inner tree y) (λ y. stuck y) (λ y. stuck y) (λ y. stuck y) h; }
+negative_step {c = c} {d = d} {k = Some kind.Operator} {k' = k'} {t = t} {at = at} one f e = record {
+  goes = λ home fs tg inner tree h.
+      by_op (λ s. parse (Within home (Want tg inner), fs) (s ∷ c) ≡ Some tree → parse (Within home (Have tg inner (constant (r.negated_of k')) []), fs) d ≡ Some tree) t at
+      (λ y. stuck y) (λ y. after_sign f (at + 1) home fs tg inner tree y) (λ y. stuck y) (λ y. stuck y) (λ y. stuck y) h;
+}
 negative_step one f e = cc
 negative_step none f e = cc
 
@@ -399,21 +425,21 @@ number_step home fs tg inner n true d tree e = e
 number_step home fs tg inner n false d tree e = stuck e
 
 single_step : {a d : List Sym} {k : Option TokenKind} {t : List ℕ} {at : ℕ} → Front a k t at d → r.is_paren_open k ≡ false → r.is_block_open k ≡ false → r.is_array_open k ≡ false → r.is_operator k ≡ false → r.ReadsPrimary a (r.single_of k t at) d
-single_step {d = d} {k = Some kind.Identifier} {t = t} {at = at} one e f g i = record { goes = λ home fs tg inner tree h. single_role home fs tg inner (role t) t at d tree h; }
-single_step {d = d} {k = Some (kind.Integer n)} one e f g i = record { goes = λ home fs tg inner tree h. number_step home fs tg inner n (nat_lt n (2 ^ 127)) d tree h; }
-single_step {k = Some kind.Character} one e f g i = record { goes = λ home fs tg inner tree h. h; }
-single_step {k = Some kind.Str} one e f g i = record { goes = λ home fs tg inner tree h. h; }
-single_step {k = Some kind.Symbol} one e f g i = record { goes = λ home fs tg inner tree h. h; }
-single_step {k = Some kind.QuotedSymbol} one e f g i = record { goes = λ home fs tg inner tree h. h; }
+single_step {d = d} {k = Some kind.Identifier} {t = t} {at = at} one e f g i = record { goes = λ home fs tg inner tree h. single_role home fs tg inner (role t) t at d tree h }
+single_step {d = d} {k = Some (kind.Integer n)} one e f g i = record { goes = λ home fs tg inner tree h. number_step home fs tg inner n (nat_lt n (2 ^ 127)) d tree h }
+single_step {k = Some kind.Character} one e f g i = record { goes = λ home fs tg inner tree h. h }
+single_step {k = Some kind.Str} one e f g i = record { goes = λ home fs tg inner tree h. h }
+single_step {k = Some kind.Symbol} one e f g i = record { goes = λ home fs tg inner tree h. h }
+single_step {k = Some kind.QuotedSymbol} one e f g i = record { goes = λ home fs tg inner tree h. h }
 single_step {k = Some kind.ParenOpen} one e f g i = cc
 single_step {k = Some kind.BlockOpen} one e f g i = cc
 single_step {k = Some kind.ArrayOpen} one e f g i = cc
 single_step {k = Some kind.Operator} one e f g i = cc
-single_step {d = d} {k = Some kind.ParenClose} one e f g i = record { goes = λ home fs tg inner tree h. stuck_on d (no_paren home fs) h; }
-single_step {d = d} {k = Some kind.BlockClose} one e f g i = record { goes = λ home fs tg inner tree h. stuck_on d (no_block home fs) h; }
-single_step {d = d} {k = Some kind.Period} one e f g i = record { goes = λ home fs tg inner tree h. stuck_on d (no_period home fs) h; }
-single_step one e f g i = record { goes = λ home fs tg inner tree h. stuck h; }
-single_step none e f g i = record { goes = λ home fs tg inner tree h. stuck (sym (no_accept home fs) ∙ h); }
+single_step {d = d} {k = Some kind.ParenClose} one e f g i = record { goes = λ home fs tg inner tree h. stuck_on d (no_paren home fs) h }
+single_step {d = d} {k = Some kind.BlockClose} one e f g i = record { goes = λ home fs tg inner tree h. stuck_on d (no_block home fs) h }
+single_step {d = d} {k = Some kind.Period} one e f g i = record { goes = λ home fs tg inner tree h. stuck_on d (no_period home fs) h }
+single_step one e f g i = record { goes = λ home fs tg inner tree h. stuck h }
+single_step none e f g i = record { goes = λ home fs tg inner tree h. stuck (sym (no_accept home fs) ∙ h) }
 
 pub single_read : (source : List ℕ) (tokens : List Token) (at : ℕ) → r.is_paren_open (kind_at tokens at) ≡ false → r.is_block_open (kind_at tokens at) ≡ false → r.is_array_open (kind_at tokens at) ≡ false → r.is_operator (kind_at tokens at) ≡ false
     → r.ReadsPrimary (rest source tokens at) (r.single_of (kind_at tokens at) (text_at source tokens at) (start_at tokens at)) (rest source tokens (next tokens at))
@@ -454,24 +480,26 @@ end_statement none h level done false fs tg o cs tree e = sym (last_ends level d
 pub one_statement : (source : List ℕ) (tokens : List Token) (at at' : ℕ) (done : List Statement) {e : Expr} → r.is_body_end (kind_at tokens at) ≡ false
     → r.ReadsExpr (rest source tokens (if r.is_caret (kind_at tokens at) then next tokens at else at)) e (rest source tokens at')
     → r.ReadsStatement (r.is_caret (kind_at tokens at) || not (r.is_period (kind_at tokens at'))) (rest source tokens at) done (done ++ stated (r.is_caret (kind_at tokens at)) e ∷ []) (rest source tokens (if r.is_period (kind_at tokens at') then next tokens at' else at'))
-one_statement source tokens at at' done {e = e} h x = record { goes = λ level fs tree k.
-    subst (λ e. parse (r.after_statement (r.is_caret (kind_at tokens at) || not (r.is_period (kind_at tokens at'))) level (done ++ stated (r.is_caret (kind_at tokens at)) e ∷ []), fs) (rest source tokens (if r.is_period (kind_at tokens at') then next tokens at' else at')) ≡ Some tree) (sym x.is)
+one_statement source tokens at at' done {e = e} h x = record {
+  goes = λ level fs tree k.
+      subst (λ e. parse (r.after_statement (r.is_caret (kind_at tokens at) || not (r.is_period (kind_at tokens at'))) level (done ++ stated (r.is_caret (kind_at tokens at)) e ∷ []), fs) (rest source tokens (if r.is_period (kind_at tokens at') then next tokens at' else at')) ≡ Some tree) (sym x.is)
       (subst (λ b. parse (r.after_statement (r.is_caret (kind_at tokens at) || not (r.is_period (kind_at tokens at'))) level (done ++ stated (r.is_caret (kind_at tokens at)) (expr x.targets x.receiver x.cascade) ∷ []), fs) b ≡ Some tree) (picked source tokens at' (r.is_period (kind_at tokens at')))
       (end_statement (left source tokens at') x.stops level done (r.is_caret (kind_at tokens at)) fs x.targets x.receiver x.cascade tree
-        (x.goes (Body level done (r.is_caret (kind_at tokens at))) fs tree (subst (λ b. parse (Within (Body level done (r.is_caret (kind_at tokens at))) (Start []), fs) b ≡ Some tree) (picked source tokens at (r.is_caret (kind_at tokens at))) (begin_statement (left source tokens at) h level done fs tree k))))); }
+      (x.goes (Body level done (r.is_caret (kind_at tokens at))) fs tree (subst (λ b. parse (Within (Body level done (r.is_caret (kind_at tokens at))) (Start []), fs) b ≡ Some tree) (picked source tokens at (r.is_caret (kind_at tokens at))) (begin_statement (left source tokens at) h level done fs tree k)))));
+}
   where
     picked : (source : List ℕ) (tokens : List Token) (at : ℕ) (p : Bool) → (if p then rest source tokens (next tokens at) else rest source tokens at) ≡ rest source tokens (if p then next tokens at else at)
     picked source tokens at true = refl
     picked source tokens at false = refl
 
 pub no_statements : (a : List Sym) (ss : List Statement) → r.ReadsMore a ss ss a
-no_statements a ss = record { goes = λ level fs tree e. e; }
+no_statements a ss = record { goes = λ level fs tree e. e }
 
 pub statements_more : {a b d : List Sym} {first done all : List Statement} → r.ReadsMore a first done b → r.ReadsStatement false b done all d → r.ReadsMore a first all d
-statements_more x y = record { goes = λ level fs tree e. y.goes level fs tree (x.goes level fs tree e); }
+statements_more x y = record { goes = λ level fs tree e. y.goes level fs tree (x.goes level fs tree e) }
 
 pub statements_last : {a b d : List Sym} {first done all : List Statement} → r.ReadsMore a first done b → r.ReadsStatement true b done all d → r.ReadsStatements a first all d
-statements_last x y = record { goes = λ level fs tree e. y.goes level fs tree (x.goes level fs tree e); }
+statements_last x y = record { goes = λ level fs tree e. y.goes level fs tree (x.goes level fs tree e) }
 
 end_body : {b d : List Sym} {k : Option TokenKind} {t : List ℕ} {at : ℕ} → Front b k t at d → r.is_body_end k ≡ true → (level : Level) (done : List Statement) (fs : List Frame) → Goes (Statements level done, fs) b (Ended level done, fs) b
 end_body {k = Some kind.BlockClose} one e level done fs tree h = h
@@ -479,7 +507,7 @@ end_body one e level done fs tree h = cc
 end_body none e level done fs tree h = sym (at_body_end level done fs [] tt) ∙ h
 
 pub statements_end : (source : List ℕ) (tokens : List Token) (at : ℕ) {a : List Sym} {first done : List Statement} → r.is_body_end (kind_at tokens at) ≡ true → r.ReadsMore a first done (rest source tokens at) → r.ReadsStatements a first done (rest source tokens at)
-statements_end source tokens at {done = done} e x = record { goes = λ level fs tree h. end_body (left source tokens at) e level done fs tree (x.goes level fs tree h); }
+statements_end source tokens at {done = done} e x = record { goes = λ level fs tree h. end_body (left source tokens at) e level done fs tree (x.goes level fs tree h) }
 
 -- ---- bodies
 
@@ -490,4 +518,4 @@ at_end heading ts done (BlockClose ∷ b) tree e = stuck e
 at_end heading ts done (x ∷ b) tree e = stuck e
 
 pub body_read : {a b c : List Sym} {ts : List Name} {done : List Statement} → r.ReadsTemporaries a [] ts b → r.ReadsStatements b [] done c → r.ReadsBody a (body ts done)
-body_read {c = c} {ts = ts} {done = done} x y = record { gives = λ heading tree e. at_end heading ts done c tree (y.goes (Top heading ts) [] tree (x.goes (OfText heading) [] tree e)); }
+body_read {c = c} {ts = ts} {done = done} x y = record { gives = λ heading tree e. at_end heading ts done c tree (y.goes (Top heading ts) [] tree (x.goes (OfText heading) [] tree e)) }

@@ -9,7 +9,6 @@ use st_base::{OutOfMemory, Text, Token};
 use st_tree::tree::{Block, Body, Expr, Message, Name, Operand, Primary, Statement};
 use std::alloc::Global;
 
-
 #[tactic(auto, using(crate::proofs::TreeParts::operand_is))]
 pub(crate) fn operand(primary: Primary, chain: Items<Message>) -> Operand
     ensures { result ≡ tree.operand primary chain }

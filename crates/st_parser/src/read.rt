@@ -354,12 +354,7 @@ fn cascade(
 
 // Reads an expression.
 #[cycle(read)]
-fn expr(
-    alloc: Global,
-    source: &[u8],
-    tokens: &[Token],
-    at: &mut usize,
-) -> Result<Expr, OutOfMemory>
+fn expr(alloc: Global, source: &[u8], tokens: &[Token], at: &mut usize) -> Result<Expr, OutOfMemory>
     ensures ahead { at.old ≤ at.new }
     ensures read { IfOk result (λ e. ReadsExpr (rest source.now tokens.now at.old) e (rest source.now tokens.now at.new)) }
 {

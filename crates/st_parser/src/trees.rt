@@ -30,11 +30,7 @@ fn body_from(
 }
 
 /// Reads a body of which the machine accepts the tokens. Of others it may read any.
-pub(crate) fn body_tree(
-    alloc: Global,
-    source: &[u8],
-    tokens: &[Token],
-) -> Result<Body, OutOfMemory>
+pub(crate) fn body_tree(alloc: Global, source: &[u8], tokens: &[Token]) -> Result<Body, OutOfMemory>
     ensures { IfOk result (λ b. Makes ABody (syms source.now tokens.now) (BodyTree b)) }
 {
     let mut at = 0;

@@ -12,7 +12,7 @@ pub targets-smaller : goal.targets-smaller
 targets-smaller c =
     let a = ahead c.args.tokens.now (next c.args.tokens.now c.targets.at) in
     let b : length c.args.tokens.now - next c.args.tokens.now c.targets.at < length c.args.tokens.now - c.targets.at =
-        less c.args.tokens.now c.targets.at is_identifier refl (first (is_identifier (kind_at c.args.tokens.now c.targets.at)) (is_assign (kind_at c.args.tokens.now (next c.args.tokens.now c.targets.at))) (cc)) in
+    less c.args.tokens.now c.targets.at is_identifier refl (first (is_identifier (kind_at c.args.tokens.now c.targets.at)) (is_assign (kind_at c.args.tokens.now (next c.args.tokens.now c.targets.at))) (cc)) in
     rw (c.advance-in-targets.ensures, c.advance.ensures) (omega (arith, a))
 
 pub targets-preserved : goal.targets-preserved

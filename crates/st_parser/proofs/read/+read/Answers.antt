@@ -43,7 +43,7 @@ pub cascade-chain-smaller : goal.cascade-chain-smaller
 cascade-chain-smaller t c = let b : length c.args.tokens.now - next c.args.tokens.now c.chain.at < length c.args.tokens.now - c.chain.at = less c.args.tokens.now c.chain.at is_semicolon refl (cc) in omega (arith, b, c.advance.ensures, c.again.ensures.ahead)
 
 pub cascade-chain-preserved : goal.cascade-chain-preserved
-cascade-chain-preserved t c = record { ahead = omega (arith, ahead c.args.tokens.now c.chain.at, c.again.ensures.ahead, c.advance.ensures); read = rw c.in_ok-push.ensures.ok (cascade_more c.args.source.now c.args.tokens.now c.chain.at (cc) c.chain.invariant.read (rw c.advance.ensures at c.in_ok-again.ensures.read)); }
+cascade-chain-preserved t c = record { ahead = omega (arith, ahead c.args.tokens.now c.chain.at, c.again.ensures.ahead, c.advance.ensures); read = rw c.in_ok-push.ensures.ok (cascade_more c.args.source.now c.args.tokens.now c.chain.at (cc) c.chain.invariant.read (rw c.advance.ensures at c.in_ok-again.ensures.read)) }
 
 pub cascade-returns-clause-stops : goal.cascade-returns-clause-stops
 cascade-returns-clause-stops t c = semicolon_ends c.args.source.now c.args.tokens.now c.chain.at (cc)
@@ -61,13 +61,13 @@ pub keyword-returns-clause-read : goal.keyword-returns-clause-read
 keyword-returns-clause-read t c = λ e. rw (c.in_ok-push.ensures.ok, c.in_ok-extend_from_slice.ensures.items, c.text_at.ensures) (keyword c.args.source.now c.args.tokens.now c.args.at.now e (rw c.advance.ensures at c.in_ok-argument.ensures.read))
 
 pub keywords-words-init : goal.keywords-words-init
-keywords-words-init t c = record { ahead = c.keyword.ensures.ahead; stops = c.in_ok-keyword.ensures.stops; read = λ e. rw c.start_at-start.ensures (so_far (rw (c.new-text.ensures.items, c.new-arguments.ensures) at (c.in_ok-keyword.ensures.read e))); }
+keywords-words-init t c = record { ahead = c.keyword.ensures.ahead; stops = c.in_ok-keyword.ensures.stops; read = λ e. rw c.start_at-start.ensures (so_far (rw (c.new-text.ensures.items, c.new-arguments.ensures) at (c.in_ok-keyword.ensures.read e))) }
 
 pub keywords-words-smaller : goal.keywords-words-smaller
 keywords-words-smaller t c = c.in_ok-keyword-2.ensures.less (cc)
 
 pub keywords-words-preserved : goal.keywords-words-preserved
-keywords-words-preserved t c = record { ahead = omega (arith, c.in_ok-keyword-2.ensures.ahead); stops = c.in_ok-keyword-2.ensures.stops; read = λ e. so_far_more (c.words.invariant.read e) (c.in_ok-keyword-2.ensures.read (cc)); }
+keywords-words-preserved t c = record { ahead = omega (arith, c.in_ok-keyword-2.ensures.ahead); stops = c.in_ok-keyword-2.ensures.stops; read = λ e. so_far_more (c.words.invariant.read e) (c.in_ok-keyword-2.ensures.read (cc)) }
 
 pub keywords-returns-clause-read : goal.keywords-returns-clause-read
 keywords-returns-clause-read t c = λ e. rw (c.message.ensures, c.in_ok-selector.ensures, c.deref.ensures.value) (keywords (c.words.invariant.read e) c.words.invariant.stops (key_ends c.args.source.now c.args.tokens.now c.words.at (cc)))

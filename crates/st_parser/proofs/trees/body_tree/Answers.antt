@@ -11,4 +11,4 @@ unfolding rest
 all_left source tokens = refl
 
 pub returns : goal.returns
-returns c = record { gives = λ tree e. (subst (λ a. ReadsBody a c.in_ok-body.body) (all_left c.args.source.now c.args.tokens.now) c.in_ok-body.ensures).gives NoPattern tree e; }
+returns c = record { gives = λ tree e. (subst (λ a. ReadsBody a c.in_ok-body.body) (all_left c.args.source.now c.args.tokens.now) c.in_ok-body.ensures).gives NoPattern tree e }

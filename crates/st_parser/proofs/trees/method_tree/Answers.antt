@@ -10,5 +10,7 @@ unfolding rest
 all_left source tokens = refl
 
 pub returns : goal.returns
-returns c = record { gives = λ tree e. c.in_ok-body.ensures.gives (Headed c.in_ok-heading.heading.selector c.in_ok-heading.heading.parameters) tree
-    ((subst (λ a. ReadsPattern a c.in_ok-heading.heading.selector c.in_ok-heading.heading.parameters (rest c.args.source.now c.args.tokens.now c.pattern.new.at)) (all_left c.args.source.now c.args.tokens.now) c.in_ok-heading.ensures.read).goes [] tree e); }
+returns c = record {
+  gives = λ tree e. c.in_ok-body.ensures.gives (Headed c.in_ok-heading.heading.selector c.in_ok-heading.heading.parameters) tree
+      ((subst (λ a. ReadsPattern a c.in_ok-heading.heading.selector c.in_ok-heading.heading.parameters (rest c.args.source.now c.args.tokens.now c.pattern.new.at)) (all_left c.args.source.now c.args.tokens.now) c.in_ok-heading.ensures.read).goes [] tree e);
+}
