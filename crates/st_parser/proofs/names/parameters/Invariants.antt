@@ -1,0 +1,9 @@
+use Rattle.std.proofs.Common.{◌≤◌, ◌-◌, length}
+use Rattle.st_parser.specs.Reading.{rest, ReadsParameters}
+use Rattle.st_parser.proofs.names.parameters.Given as goal
+
+abbrev pub invariant-names : goal.invariant-names
+invariant-names l = record { ahead : l.fn.at ≤ l.at; read : ReadsParameters (rest l.source l.tokens l.fn.at) l.fn.names l.names (rest l.source l.tokens l.at) }
+
+abbrev pub decreases-names : goal.decreases-names
+decreases-names l = length l.tokens - l.at

@@ -1,0 +1,10 @@
+// The trees of methods, initializers and whole programs, equality without places, and copies.
+#![tactic(auto)]
+
+mod copy;
+mod copy_units;
+pub mod law;
+#[cfg(test)]
+mod tests;
+pub mod tree;
+pub mod units;
