@@ -1,5 +1,5 @@
 -- What the bytes that were taken settle, from one answer of the reader to the next.
-use Rattle.std.proofs.Common.{◌≡◌, ◌⊎◌, inl, inr, ◌+◌, ◌-◌, ◌≤◌, ℕ, Bool, true, false, List, [], ◌∷◌, ◌++◌, length, Option, None, Some, IfSome, refl, ap, sym, ◌∙◌, arith, append_assoc, leb}
+use Rattle.std.proofs.Common.{◌≡◌, ◌⊎◌, inl, inr, ◌+◌, ◌-◌, ◌≤◌, ℕ, Bool, true, false, List, [], ◌∷◌, ◌++◌, take, length, Option, None, Some, IfSome, refl, ap, sym, ◌∙◌, arith, append_assoc, leb, if◌then◌else◌}
 use Rattle.std.specs.Option.{option_map}
 use Rattle.std.specs.Io.KnownBytes.{prepend_known}
 use Rattle.std.proofs.lemmas.List.{append-nil, length-append}
@@ -10,16 +10,17 @@ use Rattle.sif_chunks.specs.Split.{Parts, parts_of}
 use Rattle.sif_chunks.specs.Reading.{Reader, Answer, answer_in, outlook, outlook_over, told, tells, told_over, parts_ahead, is_ended, stopped, Settled, max_input}
 use Rattle.sif_chunks.specs.Reading as chunks
 use Rattle.sif_chunks.specs.declared.next.Next.TheVariants as next
+use Rattle.st_base.specs.declared.faults.Reason.{Reason}
 use Rattle.st_base.specs.declared.faults.Reason.TheVariants.{InputTooLong}
 use Rattle.st_base.specs.declared.faults.Place.{Place}
 use Rattle.st_run.specs.declared.elements.Awaited.{Awaited}
 use Rattle.st_run.specs.declared.elements.Awaited.TheVariants.{Version}
 use Rattle.st_run.specs.declared.elements.Judgment.TheVariants as judgment
 use Rattle.st_run.specs.Elements.{step_of}
-use Rattle.st_run.specs.Reading.{Verdict, verdict_over, with_shown, settled_refusal}
+use Rattle.st_run.specs.Reading.{Program, shows, Verdict, verdict_over, verdict_on, with_program, settled_refusal, but_length, is_length}
 use Rattle.st_run.specs.Results.{Judges}
 use Rattle.st_run.specs.Headline.{LeavesOpen}
-use Rattle.st_run.proofs.Verdicts.{by_answer, verdict_in, verdict_on-answer, IsBefore, new_reader, step_goes}
+use Rattle.st_run.proofs.Verdicts.{by_answer, verdict_in, verdict_on-answer, IsBefore, new_reader, step_goes, with_nothing}
 
 -- a verdict that is open: the input is refused for its length alone
 pub record IsOpen (v : Verdict) : Type 0 where
@@ -27,8 +28,8 @@ pub record IsOpen (v : Verdict) : Type 0 where
   pub is : v.refusal ≡ Some (place, InputTooLong)
 
 -- the bytes so far leave the reader here, whatever comes behind them
-pub record GoesOn (got shown : List ℕ) (awaited : Awaited) (number : ℕ) (reader : Reader) : Type 0 where
-  pub same : (ended : Bool) (more : List ℕ) → verdict_over ended (got ++ more) ≡ with_shown shown (verdict_in awaited ended number (parts_of ended (reader.pending ++ more)))
+pub record GoesOn (got : List ℕ) (program : Program) (awaited : Awaited) (number : ℕ) (reader : Reader) : Type 0 where
+  pub same : (ended : Bool) (more : List ℕ) → verdict_over ended (got ++ more) ≡ with_program program (verdict_in awaited ended number (parts_of ended (reader.pending ++ more)))
 
 -- the bytes so far are all of the input, and leave it open whether a text ends
 pub record IsSpent (got : List ℕ) (reader : Reader) (now : Option (List ℕ)) : Type 0 where
@@ -37,11 +38,11 @@ pub record IsSpent (got : List ℕ) (reader : Reader) (now : Option (List ℕ)) 
   pub unsettled : IsOpen (verdict_over false got)
 
 -- the bytes that were taken from the first so far
-pub record TakenSoFar (bytes : List ℕ) (now : Option (List ℕ)) (shown : List ℕ) (awaited : Awaited) (number : ℕ) (reader : Reader) : Type 0 where
+pub record TakenSoFar (bytes : List ℕ) (now : Option (List ℕ)) (program : Program) (awaited : Awaited) (number : ℕ) (reader : Reader) : Type 0 where
   pub got : List ℕ
   pub first : Some bytes ≡ prepend_known got now
   pub count : reader.taken ≡ length got
-  pub state : GoesOn got shown awaited number reader ⊎ IsSpent got reader now
+  pub state : GoesOn got program awaited number reader ⊎ IsSpent got reader now
 
 prepend_known-nil : (known : Option (List ℕ)) → prepend_known [] known ≡ known
 prepend_known-nil None = refl
@@ -51,10 +52,10 @@ prepend_known-append : (a b : List ℕ) (known : Option (List ℕ)) → prepend_
 prepend_known-append a b None = refl
 prepend_known-append a b (Some bytes) = ap Some (sym (append_assoc a b bytes))
 
-taken_start : (bytes : List ℕ) → TakenSoFar bytes (Some bytes) [] Version 1 new_reader
-taken_start bytes = record { got = []; first = refl; count = refl; state = inl (record { same = λ ended more. refl }) }
+taken_start : (bytes : List ℕ) → TakenSoFar bytes (Some bytes) (shows []) Version 1 new_reader
+taken_start bytes = record { got = []; first = refl; count = refl; state = inl (record { same = λ ended more. sym (with_nothing (verdict_over ended more)) }) }
 
-pub taken_at_start : (first : Option (List ℕ)) → IfSome first (λ bytes. TakenSoFar bytes first [] Version 1 new_reader)
+pub taken_at_start : (first : Option (List ℕ)) → IfSome first (λ bytes. TakenSoFar bytes first (shows []) Version 1 new_reader)
 taken_at_start None = tt
 taken_at_start (Some bytes) = taken_start bytes
 
@@ -65,12 +66,12 @@ over_by_answer awaited number reader ended bytes begun =
     verdict_on-answer awaited ended number parts.texts parts.rest ∙ ap (by_answer awaited) (sym (begun.over ended bytes))
 
 -- the verdict on the bytes so far and those that come, by what the reader would answer
-by_outlook : (got more shown : List ℕ) (awaited : Awaited) (number : ℕ) (reader : Reader) (ended : Bool) → GoesOn got shown awaited number reader → IsBefore number reader → verdict_over ended (got ++ more) ≡ with_shown shown (by_answer awaited (outlook_over reader ended more))
-by_outlook got more shown awaited number reader ended so_far begun =
-    so_far.same ended more ∙ ap (with_shown shown) (over_by_answer awaited number reader ended more begun)
+by_outlook : (got more : List ℕ) (program : Program) (awaited : Awaited) (number : ℕ) (reader : Reader) (ended : Bool) → GoesOn got program awaited number reader → IsBefore number reader → verdict_over ended (got ++ more) ≡ with_program program (by_answer awaited (outlook_over reader ended more))
+by_outlook got more program awaited number reader ended so_far begun =
+    so_far.same ended more ∙ ap (with_program program) (over_by_answer awaited number reader ended more begun)
 
-open_answer : (awaited : Awaited) (shown text : List ℕ) (number : ℕ) (v : Verdict) → v ≡ with_shown shown (by_answer awaited (stopped next.InputTooLong number text)) → IsOpen v
-open_answer awaited shown text number v is = record { place = record { element = number; byte = length text }; is = rw is refl }
+open_answer : (awaited : Awaited) (program : Program) (text : List ℕ) (number : ℕ) (v : Verdict) → v ≡ with_program program (by_answer awaited (stopped next.InputTooLong number text)) → IsOpen v
+open_answer awaited program text number v is = record { place = record { element = number; byte = length text }; is = rw is refl }
 
 -- where nothing is left and nothing is in hand, no element comes
 no_element : (awaited : Awaited) (number : ℕ) (old new : Reader) (left : List ℕ) → IsBefore number old → old.pending ≡ [] → outlook old [] ≡ told next.Element new left → ⊥
@@ -90,34 +91,34 @@ no_element_left awaited number old new bytes got (Some left) (Some more) begun f
     no_element awaited number old new more begun spent.judged (rw none_left at same)
 
 -- what comes after an element that goes on
-after_got : (awaited after : Awaited) (number : ℕ) (old new : Reader) (bytes got shown now_shown : List ℕ) (before now : Option (List ℕ)) → IsBefore number old → Some bytes ≡ prepend_known got before → GoesOn got shown awaited number old ⊎ IsSpent got old before → (more : List ℕ) → chunks.Settles next.Element (outlook_over old) more (stopped next.InputTooLong new.number new.text) (told_over next.Element new) new.pending now → option_map (outlook old) before ≡ option_map (told next.Element new) now → Judges (step_of awaited new.text) (judgment.Goes after) shown now_shown → GoesOn (got ++ more) now_shown after (new.number + 1) new ⊎ IsSpent (got ++ more) new now
+after_got : (awaited after : Awaited) (number : ℕ) (old new : Reader) (bytes got : List ℕ) (program grown : Program) (before now : Option (List ℕ)) → IsBefore number old → Some bytes ≡ prepend_known got before → GoesOn got program awaited number old ⊎ IsSpent got old before → (more : List ℕ) → chunks.Settles next.Element (outlook_over old) more (stopped next.InputTooLong new.number new.text) (told_over next.Element new) new.pending now → option_map (outlook old) before ≡ option_map (told next.Element new) now → Judges new.number (step_of awaited new.text) (judgment.Goes after) program grown → GoesOn (got ++ more) grown after (new.number + 1) new ⊎ IsSpent (got ++ more) new now
 unfolding told_over
-after_got awaited after number old new bytes got shown now_shown before now begun first (inl goes_on) more (inl follows) answer judges = inl (record {
+after_got awaited after number old new bytes got program grown before now begun first (inl goes_on) more (inl follows) answer judges = inl (record {
   same = λ ended rest.
       ap (verdict_over ended) (append_assoc got more rest)
-      ∙ by_outlook got (more ++ rest) shown awaited number old ended goes_on begun
-      ∙ ap (λ (a : Answer). with_shown shown (by_answer awaited a)) (follows ended rest)
-      ∙ step_goes new.number (step_of awaited new.text) after shown now_shown (λ onward. verdict_in onward ended (new.number + 1) (parts_of ended (new.pending ++ rest))) judges;
+      ∙ by_outlook got (more ++ rest) program awaited number old ended goes_on begun
+      ∙ ap (λ (a : Answer). with_program program (by_answer awaited a)) (follows ended rest)
+      ∙ step_goes new.number (step_of awaited new.text) after program grown (λ onward. verdict_in onward ended (new.number + 1) (parts_of ended (new.pending ++ rest))) judges;
 })
-after_got awaited after number old new bytes got shown now_shown before now begun first (inl goes_on) more (inr last) answer judges = inr (record {
+after_got awaited after number old new bytes got program grown before now begun first (inl goes_on) more (inr last) answer judges = inr (record {
   ended = last.ended;
   judged = last.judged;
-  unsettled = open_answer awaited shown new.text new.number _ (by_outlook got more shown awaited number old false goes_on begun ∙ ap (λ (a : Answer). with_shown shown (by_answer awaited a)) last.unsettled);
+  unsettled = open_answer awaited program new.text new.number _ (by_outlook got more program awaited number old false goes_on begun ∙ ap (λ (a : Answer). with_program program (by_answer awaited a)) last.unsettled);
 })
-after_got awaited after number old new bytes got shown now_shown before now begun first (inr spent) more settles answer judges = absurd (no_element_left awaited number old new bytes got before now begun first spent answer)
+after_got awaited after number old new bytes got program grown before now begun first (inr spent) more settles answer judges = absurd (no_element_left awaited number old new bytes got before now begun first spent answer)
 
-taken_element : (awaited after : Awaited) (number : ℕ) (old new : Reader) (bytes shown now_shown : List ℕ) (before now : Option (List ℕ)) → IsBefore number old → Settled next.Element old before new now → option_map (outlook old) before ≡ option_map (told next.Element new) now → Judges (step_of awaited new.text) (judgment.Goes after) shown now_shown → TakenSoFar bytes before shown awaited number old → TakenSoFar bytes now now_shown after (new.number + 1) new
-taken_element awaited after number old new bytes shown now_shown before now begun settled answer judges so_far = record {
+taken_element : (awaited after : Awaited) (number : ℕ) (old new : Reader) (bytes : List ℕ) (program grown : Program) (before now : Option (List ℕ)) → IsBefore number old → Settled next.Element old before new now → option_map (outlook old) before ≡ option_map (told next.Element new) now → Judges new.number (step_of awaited new.text) (judgment.Goes after) program grown → TakenSoFar bytes before program awaited number old → TakenSoFar bytes now grown after (new.number + 1) new
+taken_element awaited after number old new bytes program grown before now begun settled answer judges so_far = record {
   got = so_far.got ++ settled.0;
   first = so_far.first ∙ ap (prepend_known so_far.got) settled.1.bytes ∙ prepend_known-append so_far.got settled.0 now;
   count = settled.1.count ∙ rw so_far.count (sym (length-append so_far.got settled.0));
-  state = after_got awaited after number old new bytes so_far.got shown now_shown before now begun so_far.first so_far.state settled.0 settled.2 answer judges;
+  state = after_got awaited after number old new bytes so_far.got program grown before now begun so_far.first so_far.state settled.0 settled.2 answer judges;
 }
 
 -- what was taken, after an element that goes on
-pub taken_on : (awaited after : Awaited) (number : ℕ) (old new : Reader) (shown now_shown : List ℕ) (first before now : Option (List ℕ)) → IsBefore number old → Settled next.Element old before new now → option_map (outlook old) before ≡ option_map (told next.Element new) now → Judges (step_of awaited new.text) (judgment.Goes after) shown now_shown → IfSome first (λ bytes. TakenSoFar bytes before shown awaited number old) → IfSome first (λ bytes. TakenSoFar bytes now now_shown after (new.number + 1) new)
-taken_on awaited after number old new shown now_shown None before now begun settled answer judges so_far = tt
-taken_on awaited after number old new shown now_shown (Some bytes) before now begun settled answer judges so_far = taken_element awaited after number old new bytes shown now_shown before now begun settled answer judges so_far
+pub taken_on : (awaited after : Awaited) (number : ℕ) (old new : Reader) (program grown : Program) (first before now : Option (List ℕ)) → IsBefore number old → Settled next.Element old before new now → option_map (outlook old) before ≡ option_map (told next.Element new) now → Judges new.number (step_of awaited new.text) (judgment.Goes after) program grown → IfSome first (λ bytes. TakenSoFar bytes before program awaited number old) → IfSome first (λ bytes. TakenSoFar bytes now grown after (new.number + 1) new)
+taken_on awaited after number old new program grown None before now begun settled answer judges so_far = tt
+taken_on awaited after number old new program grown (Some bytes) before now begun settled answer judges so_far = taken_element awaited after number old new bytes program grown before now begun settled answer judges so_far
 
 unsettled_open : (taken : List ℕ) → leb (length taken) max_input ≡ true → IsOpen (verdict_over false taken) → settled_refusal taken ≡ None
 unfolding settled_refusal
@@ -133,24 +134,24 @@ nothing_more bytes got (b ∷ bs) (Some left) (Some rest) first ended is =
     let none : left ≡ [] = ended in
     cc
 
-still_open : (awaited : Awaited) (number : ℕ) (old new : Reader) (bytes got shown : List ℕ) (before now : Option (List ℕ)) → IsBefore number old → Some bytes ≡ prepend_known got before → GoesOn got shown awaited number old ⊎ IsSpent got old before → (more : List ℕ) → before ≡ prepend_known more now → chunks.Settles next.ReadFault (outlook_over old) more (stopped next.InputTooLong new.number new.text) (told_over next.ReadFault new) new.pending now → IsOpen (verdict_over false (got ++ more))
-still_open awaited number old new bytes got shown before now begun first (inl goes_on) more is settles =
-    open_answer awaited shown new.text new.number _
-    (by_outlook got more shown awaited number old false goes_on begun
-    ∙ ap (λ (a : Answer). with_shown shown (by_answer awaited a)) (ap (outlook_over old false) (sym (append-nil more)) ∙ settles.follows false [] ∙ settles.unsettled))
-still_open awaited number old new bytes got shown before now begun first (inr spent) more is settles =
+still_open : (awaited : Awaited) (number : ℕ) (old new : Reader) (bytes got : List ℕ) (program : Program) (before now : Option (List ℕ)) → IsBefore number old → Some bytes ≡ prepend_known got before → GoesOn got program awaited number old ⊎ IsSpent got old before → (more : List ℕ) → before ≡ prepend_known more now → chunks.Settles next.ReadFault (outlook_over old) more (stopped next.InputTooLong new.number new.text) (told_over next.ReadFault new) new.pending now → IsOpen (verdict_over false (got ++ more))
+still_open awaited number old new bytes got program before now begun first (inl goes_on) more is settles =
+    open_answer awaited program new.text new.number _
+    (by_outlook got more program awaited number old false goes_on begun
+    ∙ ap (λ (a : Answer). with_program program (by_answer awaited a)) (ap (outlook_over old false) (sym (append-nil more)) ∙ settles.follows false [] ∙ settles.unsettled))
+still_open awaited number old new bytes got program before now begun first (inr spent) more is settles =
     rw (nothing_more bytes got more before now first spent.ended is, append-nil got) spent.unsettled
 
-leaves_open : (awaited : Awaited) (number : ℕ) (old new : Reader) (bytes shown : List ℕ) (before now : Option (List ℕ)) → IsBefore number old → Settled next.ReadFault old before new now → new.taken ≤ max_input → TakenSoFar bytes before shown awaited number old → LeavesOpen bytes now
-leaves_open awaited number old new bytes shown before now begun settled short so_far =
+leaves_open : (awaited : Awaited) (number : ℕ) (old new : Reader) (bytes : List ℕ) (program : Program) (before now : Option (List ℕ)) → IsBefore number old → Settled next.ReadFault old before new now → new.taken ≤ max_input → TakenSoFar bytes before program awaited number old → LeavesOpen bytes now
+leaves_open awaited number old new bytes program before now begun settled short so_far =
     let count : new.taken ≡ length (so_far.got ++ settled.0) = settled.1.count ∙ rw so_far.count (sym (length-append so_far.got settled.0)) in
     record {
       taken = so_far.got ++ settled.0;
       first = so_far.first ∙ ap (prepend_known so_far.got) settled.1.bytes ∙ prepend_known-append so_far.got settled.0 now;
-      unsettled = unsettled_open (so_far.got ++ settled.0) (le-leb (length (so_far.got ++ settled.0)) max_input (omega arith)) (still_open awaited number old new bytes so_far.got shown before now begun so_far.first so_far.state settled.0 settled.1.bytes settled.2);
+      unsettled = unsettled_open (so_far.got ++ settled.0) (le-leb (length (so_far.got ++ settled.0)) max_input (omega arith)) (still_open awaited number old new bytes so_far.got program before now begun so_far.first so_far.state settled.0 settled.1.bytes settled.2);
     }
 
 -- a read fault leaves the input open
-pub fault_leaves_open : (awaited : Awaited) (number : ℕ) (old new : Reader) (shown : List ℕ) (first before now : Option (List ℕ)) → IsBefore number old → Settled next.ReadFault old before new now → new.taken ≤ max_input → IfSome first (λ bytes. TakenSoFar bytes before shown awaited number old) → IfSome first (λ bytes. LeavesOpen bytes now)
-fault_leaves_open awaited number old new shown None before now begun settled short so_far = tt
-fault_leaves_open awaited number old new shown (Some bytes) before now begun settled short so_far = leaves_open awaited number old new bytes shown before now begun settled short so_far
+pub fault_leaves_open : (awaited : Awaited) (number : ℕ) (old new : Reader) (program : Program) (first before now : Option (List ℕ)) → IsBefore number old → Settled next.ReadFault old before new now → new.taken ≤ max_input → IfSome first (λ bytes. TakenSoFar bytes before program awaited number old) → IfSome first (λ bytes. LeavesOpen bytes now)
+fault_leaves_open awaited number old new program None before now begun settled short so_far = tt
+fault_leaves_open awaited number old new program (Some bytes) before now begun settled short so_far = leaves_open awaited number old new bytes program before now begun settled short so_far

@@ -1,12 +1,12 @@
 -- The top call, by what reading came to.
-use Rattle.std.proofs.Common.{◌≡◌, List, ℕ, [], Option, None, Some, true, IfSome, refl, sym, ap, ◌∙◌, is_some}
+use Rattle.std.proofs.Common.{◌≡◌, ◌++◌, List, ℕ, [], Option, None, Some, true, false, Bool, IfSome, refl, sym, ap, ◌∙◌, is_some}
 use Rattle.std.proofs.lemmas.List.{append-nil}
 use Rattle.std.proofs.lemmas.Bool.{false≢true}
 use Rattle.std.specs.Io.KnownBytes.{append_known}
-use Rattle.st_base.specs.Streams.{GainsPrefix}
+use Rattle.st_base.specs.Streams.{Rose, GainsPrefix}
 use Rattle.st_base.specs.declared.faults.Place.{Place}
 use Rattle.st_base.specs.declared.faults.Reason.{Reason}
-use Rattle.st_run.specs.Reading.{verdict}
+use Rattle.st_run.specs.Reading.{Verdict, verdict}
 use Rattle.st_run.specs.Results.{ReadsAs}
 use Rattle.st_run.specs.declared.reading.Read.TheVariants as read
 use Rattle.st_run.specs.Commands.{Command, run, Outcome, ForBytes, refused_line}

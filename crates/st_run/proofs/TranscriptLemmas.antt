@@ -1,7 +1,8 @@
 -- What a body shows, token by token, and a string, byte by byte.
-use Rattle.std.proofs.Common.{◌≡◌, ◌+◌, ◌<◌, ℕ, true, false, List, [], ◌∷◌, ◌++◌, drop, length, get_or, Option, refl, sym, ◌∙◌, eqb, append_assoc}
+use Rattle.std.proofs.Common.{◌≡◌, ◌+◌, ◌<◌, ℕ, Bool, true, false, List, [], ◌∷◌, ◌++◌, drop, length, get_or, Option, None, Some, refl, sym, ◌∙◌, eqb, append_assoc}
 use Rattle.std.proofs.lemmas.List.{drop_more}
-use Rattle.st_run.specs.Transcript.{unquoted, in_front}
+use Rattle.st_tree.specs.Symbols.{unquoted}
+use Rattle.st_run.specs.Transcript.{in_front}
 
 -- the whole is what was added so far and then the rest
 pub record ShownSoFar (whole : Option (List ℕ)) (old new : List ℕ) (rest : Option (List ℕ)) : Type 0 where

@@ -4,7 +4,7 @@ use Rattle.std.specs.Str.{bytes_eq}
 use Rattle.st_base.specs.declared.faults.Place.{Place}
 use Rattle.st_base.specs.declared.faults.Reason.{Reason}
 use Rattle.st_base.specs.declared.faults.Reason.TheVariants.{MissingVersion, MissingText, Unfinished, ElementTooLong, InputTooLong, BadCharacter, OpenString, OpenComment, BadRadix, IntegerTooLarge, FloatOutside, Syntax, TooDeep, Unbuilt, DuplicateClass, DuplicateName, UnknownSuperclass, IndexedClash, DuplicateVariable, UnknownPool, UnknownClass, ReplacesBuiltin, DuplicateMethod, UnknownTarget, SecondInitializer, UndeclaredName, NotAssignable}
-use Rattle.st_run.specs.Reading.{verdict}
+use Rattle.st_run.specs.Reading.{Verdict, verdict, refusal_of, shown_by}
 
 pub data Command : Type 0 where
   run : Command
@@ -71,7 +71,7 @@ outcome_of shown (Some refusal) = record { output = []; report = refused_line re
 -- what the program does for a command, or for words that are none, and an input
 abbrev pub does : Option Command → List ℕ → Outcome
 does None bytes = record { output = []; report = usage_line; status = 2 }
-does (Some run) bytes = outcome_of (verdict bytes).shown (verdict bytes).refusal
+does (Some run) bytes = outcome_of (shown_by (verdict bytes).program) (refusal_of (verdict bytes))
 
 -- for each command that reads, where its source tells its bytes; and for words that are no command
 abbrev pub ForBytes : Option Command → Option (List ℕ) → (Outcome → Type 0) → Type 0
@@ -85,4 +85,4 @@ Reads (Some command) = Unit {0}
 
 -- nothing in an input is refused
 abbrev pub IsValid : List ℕ → Type 0
-IsValid bytes = (verdict bytes).refusal ≡ None
+IsValid bytes = refusal_of (verdict bytes) ≡ None

@@ -1,17 +1,11 @@
 -- What a body shows that has statements of the Transcript alone.
-use Rattle.std.specs.Prelude.{◌≡◌, ℕ, ◌+◌, ◌-◌, Bool, true, false, ◌==◌, List, [], ◌∷◌, ◌++◌, take, drop, Option, None, Some, codes, if◌then◌else◌}
+use Rattle.std.specs.Prelude.{◌≡◌, ℕ, ◌+◌, ◌-◌, Bool, true, false, List, [], ◌∷◌, ◌++◌, take, drop, Option, None, Some, codes, if◌then◌else◌}
 use Rattle.std.specs.Option.{option_map}
 use Rattle.st_base.specs.declared.tokens.Token.{Token}
+use Rattle.st_tree.specs.Symbols.{unquoted}
 use Rattle.st_run.specs.Words.{is_name, is_key, is_string, is_period, is_semicolon}
 use Rattle.st_run.specs.declared.transcript.Expected.{Expected}
 use Rattle.st_run.specs.declared.transcript.Expected.TheVariants.{Statement, Message, Argument, Separator}
-
--- The bytes that a string stands for: two quotes are one. The flag says that the byte before was a quote that was
--- taken.
-abbrev pub unquoted : Bool → List ℕ → List ℕ
-unquoted skips [] = []
-unquoted false (b ∷ bs) = b ∷ unquoted (b == 39) bs
-unquoted true (b ∷ bs) = unquoted false bs
 
 -- the bytes that a string's token stands for, without its outer quotes
 abbrev pub string_value : List ℕ → Token → List ℕ

@@ -3,12 +3,15 @@
 #![tactic(auto)]
 
 mod elements;
+mod law;
+mod program;
 mod reading;
 mod report;
 mod top;
 mod transcript;
 mod words;
 
+pub use law::bodies_are_judged_by_the_grammar;
 pub use top::{report_want_of_memory, stx};
 
 #[cfg(test)]

@@ -97,6 +97,14 @@ fn check_cut(
     )
 }
 
+// Runs an input that is a version, a header and what follows it.
+fn check_body(rt: &impl Abort, alloc: Global, body: &[u8], wanted: Wanted) -> Result<(), Fail> {
+    let mut input = Vec::from_slice(alloc, VERSION)?;
+    input.extend_from_slice(b"Global initializer!")?;
+    input.extend_from_slice(body)?;
+    check_cut(rt, alloc, &input, 1, wanted)
+}
+
 fn shown(out: &[u8]) -> Wanted {
     Wanted {
         status: 0,
@@ -149,17 +157,41 @@ fn bodies_are_shown_or_refused(rt: HostRuntime) -> Result<(), Fail> {
             wanted: refused(b"stx: refused element 4 byte 0 Unbuilt\n"),
         },
         Row {
-            body: b"Transcript show: {!",
+            body: b"Transcript show: 'hi'!x {!",
+            wanted: refused(b"stx: refused element 4 byte 2 BadCharacter\n"),
+        },
+        Row {
+            body: b"3 +!",
+            wanted: refused(b"stx: refused element 3 byte 3 Syntax\n"),
+        },
+        Row {
+            body: b"a := #( 1 $!",
+            wanted: refused(b"stx: refused element 3 byte 10 BadCharacter\n"),
+        },
+        Row {
+            body: b"170141183460469231731687303715884105728!",
+            wanted: refused(b"stx: refused element 3 byte 0 IntegerTooLarge\n"),
+        },
+        Row {
+            body: b"3 + 4!Global initializer!Transcript cr!",
             wanted: refused(b"stx: refused element 3 byte 0 Unbuilt\n"),
+        },
+        Row {
+            body: b"3 + 4!Global initializer!3 +!",
+            wanted: refused(b"stx: refused element 5 byte 3 Syntax\n"),
         },
     ];
     for row in &rows {
-        let mut input = Vec::from_slice(rt.alloc(), VERSION)?;
-        input.extend_from_slice(b"Global initializer!")?;
-        input.extend_from_slice(row.body)?;
-        check_cut(&rt, rt.alloc(), &input, 1, row.wanted)?;
+        check_body(&rt, rt.alloc(), row.body, row.wanted)?;
     }
-    Ok(())
+    let mut deep = vec![in rt.alloc(); b'('; 201]?;
+    deep.push(b'!')?;
+    check_body(
+        &rt,
+        rt.alloc(),
+        &deep,
+        refused(b"stx: refused element 3 byte 200 TooDeep\n"),
+    )
 }
 
 // Where and why the first n bytes of the greeting are refused.
@@ -294,7 +326,7 @@ fn devices_that_fail_are_told(rt: HostRuntime) -> Result<(), Fail> {
         pieces: 100,
         ..WHOLE
     };
-    let settled = refused(b"stx: refused element 3 byte 0 Unbuilt\n");
+    let settled = refused(b"stx: refused element 3 byte 3 Syntax\n");
     check(
         &rt,
         alloc,

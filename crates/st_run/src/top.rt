@@ -5,6 +5,7 @@ ghost use Rattle.st_base.specs.Streams.{Rose, GainsPrefix};
 ghost use Rattle.st_run.specs.Commands.{command_of, ForBytes, Reads, IsValid, read_fault_line, memory_line};
 ghost use Rattle.st_run.specs.Headline.{IsDone, IsReported, LeavesOpen, StopsIn};
 
+use crate::program::Gathered;
 use crate::reading::{Read, read_all};
 use crate::report::{OUT_OF_MEMORY, READ_FAULT, USAGE, refusal};
 use st_base::{Sink, Source, put_all};
@@ -91,9 +92,12 @@ pub fn stx<S: Source, K: Sink, E: Sink>(
     if !says_run(words) {
         return tell(report, USAGE, 2);
     }
-    let mut shown = Vec::new(alloc);
-    match read_all(alloc, source, &mut shown) {
-        Read::Done => write_out(out, &shown),
+    let mut program = Gathered {
+        shown: Vec::new(alloc),
+        unbuilt: None,
+    };
+    match read_all(alloc, source, &mut program) {
+        Read::Done => write_out(out, &program.shown),
         Read::Refused(place, reason) => match refusal(alloc, place, reason) {
             Ok(line) => tell(report, &line, 1),
             Err(_) => report_want_of_memory(report),

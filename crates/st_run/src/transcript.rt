@@ -1,7 +1,8 @@
 // The body of a program initializer whose statements write on the Transcript and do nothing else.
 ghost use Rattle.std.specs.Prelude.{◌≡◌, ◌++◌, length, OnOk, IfOk, OnSome, All, false};
 ghost use Rattle.st_base.specs.Lexed.{Fits};
-ghost use Rattle.st_run.specs.Transcript.{string_value, unquoted, token_shows, expected_behind, shown, Shows};
+ghost use Rattle.st_tree.specs.Symbols.{unquoted};
+ghost use Rattle.st_run.specs.Transcript.{string_value, token_shows, expected_behind, shown, Shows};
 
 use crate::words::{is_key, is_name, is_period, is_semicolon, is_string};
 use st_base::{OutOfMemory, Token};

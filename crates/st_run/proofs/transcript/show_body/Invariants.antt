@@ -1,4 +1,5 @@
-use Rattle.std.proofs.Common.{drop}
+use Rattle.std.proofs.Common.{◌≡◌, ◌++◌, drop, List, ℕ}
+use Rattle.std.specs.Option.{option_map}
 use Rattle.st_run.specs.Transcript.{shown}
 use Rattle.st_run.specs.declared.transcript.Expected.TheVariants.{Statement}
 use Rattle.st_run.proofs.TranscriptLemmas.{ShownSoFar}

@@ -1,5 +1,5 @@
 use Rattle.std.proofs.Common.{◌≡◌, ◌++◌, drop, false}
-use Rattle.st_run.specs.Transcript.{unquoted}
+use Rattle.st_tree.specs.Symbols.{unquoted}
 use Rattle.st_run.proofs.transcript.unquote.Given as goal
 
 -- what was added so far, and what is left
