@@ -1,4 +1,7 @@
 pub mod Larger
+pub mod Meets
+pub mod RuleLaws
+pub mod FollowedRun
 pub mod Computing
 pub mod HandlerRuns
 pub mod UnwindingRuns

@@ -22,4 +22,5 @@ pub mod OneRun
 pub mod Machine
 pub mod Scoped
 pub mod Turns
+pub mod Followed
 pub mod Flat
