@@ -1,0 +1,8 @@
+// Names as numbers: each text is numbered from 0 by the place of its first insertion.
+#![tactic(auto)]
+
+mod names;
+#[cfg(test)]
+mod tests;
+
+pub use names::Names;

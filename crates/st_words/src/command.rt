@@ -1,0 +1,139 @@
+// What the program is asked to do, and the options of it.
+ghost use Rattle.std.specs.Prelude.{◌≡◌, ◌≢◌, IfOk, None, codes, map, option_map, string_bytes};
+ghost use Rattle.clap.specs.Words.{first_of, found_of, kind_of, one_of, rows_of};
+ghost use Rattle.st_words.specs.CommandLine.{command_of, command_of_rows, is_true, named_task, number_or, options, task_of};
+
+use crate::args::found;
+use clap::error::ErrorKind;
+use clap::{ArgMatches, Error};
+use st_base::{Limits, OutOfMemory};
+use std::alloc::Global;
+
+/// What the program does with its input.
+#[derive(Clone, Copy, Debug, PartialEq, Eq)]
+pub enum Task {
+    /// Runs it, and writes its Transcript.
+    Run,
+    /// Says that it keeps the static rules, or where it breaks one.
+    Check,
+    /// Writes a line for each of its units.
+    List,
+    /// Writes its canonical text.
+    Export,
+    /// Runs it with generated lines behind it, and writes what that came to.
+    Gen,
+}
+
+/// A task and its options. Each task takes all of them, and ignores those that it doesn't use.
+#[derive(Clone, Copy, Debug, PartialEq, Eq)]
+pub struct Command {
+    pub task: Task,
+    /// `--steps`, `--depth` and `--cells`: 10,000,000, 10,000 and 4,194,304 where they aren't given.
+    pub limits: Limits,
+    /// `--seed`: 0 to 4,294,967,295, and 1 where it isn't given.
+    pub seed: u32,
+    /// `--size`: 1 to 10,000, and 100 where it isn't given.
+    pub size: u32,
+    /// `--stats`.
+    pub stats: bool,
+}
+
+fn task_of(name: &str) -> Option<Task>
+    ensures { result ≡ task_of name.now }
+{
+    match name {
+        "run" => Some(Task::Run),
+        "check" => Some(Task::Check),
+        "list" => Some(Task::List),
+        "export" => Some(Task::Export),
+        "gen" => Some(Task::Gen),
+        _ => None,
+    }
+}
+
+// An option's number.
+fn number(matches: &ArgMatches<'_>, name: &str, default: u32) -> u32
+    ensures { result ≡ number_or 32 default (one_of name.now (rows_of (found_of matches.now))) }
+{
+    matches.get_one::<u32>(name).unwrap_or(default)
+}
+
+// The number of `--steps`, which may be greater than the others.
+fn steps(matches: &ArgMatches<'_>) -> u64
+    ensures { result ≡ number_or 64 10000000 (one_of (codes "steps") (rows_of (found_of matches.now))) }
+{
+    matches.get_one::<u64>("steps").unwrap_or(10_000_000)
+}
+
+// The first value of an argument.
+fn text_of<'a>(matches: &ArgMatches<'a>, name: &str) -> Option<&'a str>
+    ensures { option_map (λ s. s.now) result ≡ first_of name.now (rows_of (found_of matches.now)) }
+{
+    matches.get_str(name)
+}
+
+fn stats(matches: &ArgMatches<'_>) -> bool
+    ensures { result ≡ is_true (first_of (codes "stats") (rows_of (found_of matches.now))) }
+{
+    match text_of(matches, "stats") {
+        Some(text) => text == "true",
+        None => false,
+    }
+}
+
+fn options(matches: &ArgMatches<'_>, task: Task) -> Command
+    ensures { result ≡ options task (rows_of (found_of matches.now)) }
+{
+    Command {
+        task,
+        limits: Limits {
+            steps: steps(matches),
+            depth: number(matches, "depth", 10_000),
+            cells: number(matches, "cells", 4_194_304),
+        },
+        seed: number(matches, "seed", 1),
+        size: number(matches, "size", 100),
+        stats: stats(matches),
+    }
+}
+
+fn named_task(matches: &ArgMatches<'_>) -> Option<Task>
+    ensures { result ≡ named_task (first_of (codes "command") (rows_of (found_of matches.now))) }
+{
+    match text_of(matches, "command") {
+        Some(name) => task_of(name),
+        None => None,
+    }
+}
+
+fn command_in(matches: &ArgMatches<'_>) -> Option<Command>
+    ensures { result ≡ command_of_rows (rows_of (found_of matches.now)) }
+{
+    match named_task(matches) {
+        Some(task) => Some(options(matches, task)),
+        None => None,
+    }
+}
+
+// A refusal of the words is no command.
+fn refused(error: Error) -> Result<Option<Command>, OutOfMemory>
+    ensures { IfOk result (λ c. (c ≡ None) × (kind_of error ≢ ErrorKind.OutOfMemory)) }
+{
+    if error.kind() == ErrorKind::OutOfMemory {
+        return Err(OutOfMemory);
+    }
+    Ok(None)
+}
+
+/// The command that the words behind the program's name give: one positional, the task, and the
+/// options `--steps`, `--depth`, `--cells`, `--seed` and `--size` with a number each and `--stats`
+/// without. None where they are no command: `clap` gives a fault for them, or the positional is no
+/// task.
+pub fn command_of(alloc: Global, words: &[String]) -> Result<Option<Command>, OutOfMemory>
+    ensures { IfOk result (λ c. c ≡ command_of (map string_bytes words.now)) }
+{
+    match found(alloc, words) {
+        Ok(matches) => Ok(command_in(&matches)),
+        Err(error) => refused(error),
+    }
+}
