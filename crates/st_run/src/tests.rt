@@ -45,7 +45,7 @@ fn calls(alloc: Global, failing: Option<u64>) -> Result<Vec<u64>, Fail> {
     Ok(calls)
 }
 
-// Runs a word over an input in memory, and compares all that comes of it.
+// Runs a word, or no words where it is empty, over an input in memory, and compares all that comes of it.
 fn check(
     rt: &impl Abort,
     alloc: Global,
@@ -55,7 +55,9 @@ fn check(
     wanted: Wanted,
 ) -> Result<(), Fail> {
     let mut words = Vec::new(alloc);
-    words.push(String::from_str(alloc, word)?)?;
+    if !word.is_empty() {
+        words.push(String::from_str(alloc, word)?)?;
+    }
     let cuts = vec![in alloc; devices.piece; devices.pieces]?;
     let failing = calls(alloc, devices.source_fails)?;
     let mut source = MemorySource::new(Vec::from_slice(alloc, input)?, cuts, failing);
@@ -284,40 +286,26 @@ fn devices_that_fail_are_told(rt: HostRuntime) -> Result<(), Fail> {
         report: b"stx: usage: stx [options] run|check|list|export|gen\n",
         faults: 0,
     };
-    check(
-        &rt,
-        alloc,
-        "run",
-        HELLO,
-        Devices {
+    for pieces in [0, 100] {
+        let cut = Devices { pieces, ..WHOLE };
+        let source_fails = Devices {
             source_fails: call,
-            ..WHOLE
-        },
-        read,
-    )?;
-    check(
-        &rt,
-        alloc,
-        "run",
-        HELLO,
-        Devices {
+            ..cut
+        };
+        let out_fails = Devices {
             out_fails: call,
-            ..WHOLE
-        },
-        write,
-    )?;
-    check(
-        &rt,
-        alloc,
-        "fly",
-        HELLO,
-        Devices {
+            ..cut
+        };
+        let report_fails = Devices {
             report_fails: call,
-            ..WHOLE
-        },
-        write,
-    )?;
-    check(&rt, alloc, "fly", HELLO, WHOLE, usage)?;
+            ..cut
+        };
+        check(&rt, alloc, "run", HELLO, source_fails, read)?;
+        check(&rt, alloc, "run", HELLO, out_fails, write)?;
+        check(&rt, alloc, "fly", HELLO, report_fails, write)?;
+        check(&rt, alloc, "fly", HELLO, cut, usage)?;
+        check(&rt, alloc, "", HELLO, cut, usage)?;
+    }
 
     // A refusal that the bytes taken settle is told, though a later call would fail.
     let mut input = Vec::from_slice(alloc, VERSION)?;
