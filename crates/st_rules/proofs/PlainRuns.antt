@@ -2,7 +2,7 @@
 use Rattle.std.proofs.Common.{[], ◌∷◌, ◌++◌, refl, true, false, Some, None, pos, negsuc}
 use Rattle.std.specs.Prelude.{codes}
 use Rattle.object_heap.specs.declared.value.Value.TheVariants.{Nil, True, Integer, Class, Transcript, Object}
-use Rattle.st_code.specs.Program.{Program, Scoped, Shared, Constant, Variable, Assign, Block, Send, Cascade, SuperCascade, no_trees, more_trees, no_messages, more_messages, Plain, Return, InMethod, InBlock, InInitializer, OfInstance, NoIndexes}
+use Rattle.st_code.specs.Program.{Program, Scoped, Shared, Constant, Variable, Assign, Block, Send, SuperSend, Cascade, SuperCascade, no_trees, more_trees, no_messages, more_messages, Plain, Return, InMethod, InBlock, InInitializer, OfInstance, NoIndexes}
 use Rattle.st_rules.specs.Events.{Event}
 use Rattle.st_rules.specs.State.{IntegerLimit}
 use Rattle.st_rules.specs.BuiltIns.{built_in_class_rows}
@@ -628,3 +628,27 @@ charges_of_failed_send =
 charges_of_failed_send_runs : Reports charges_of_failed_send 16 (record { ending = WasDone; transcript = 49 ∷ []; steps = 10; depth = 6; cells = 15; events = (Event.Protect 2) ∷ (Event.Signal 4) ∷ (Event.Search 4) ∷ (Event.Tried 2 true) ∷ (Event.Handle 5 2) ∷ (Event.End 5 true) ∷ (Event.End 4 true) ∷ (Event.End 2 false) ∷ [] })
 unfolding computing
 charges_of_failed_send_runs = (refl, refl, refl)
+
+-- Class named: 'A' superclass: 'Object'!Class named: 'B' superclass: 'A'!Class named: 'C' superclass: 'B'!A method!m ^1!B method!m ^super m + 1!Global initializer!Transcript show: C new m printString!
+abbrev super_sent : Program
+super_sent =
+    record {
+      names = (codes "value") ∷ (codes "value:") ∷ (codes "value:value:") ∷ (61 ∷ []) ∷ (codes "defaultAction") ∷ (codes "isResumable") ∷ (codes "handles:") ∷ (codes "doesNotUnderstand:") ∷ (codes "printString") ∷ (codes "m") ∷ (43 ∷ []) ∷ (codes "new") ∷ (codes "show:") ∷ [];
+      classes = built_in_class_rows ++ record { name = 65 ∷ []; superclass = Some 0; in_file = true; indexed = NoIndexes; slots = 0; class_slots = 0 } ∷ record { name = 66 ∷ []; superclass = Some 30; in_file = true; indexed = NoIndexes; slots = 0; class_slots = 0 } ∷ record { name = 67 ∷ []; superclass = Some 31; in_file = true; indexed = NoIndexes; slots = 0; class_slots = 0 } ∷ [];
+      methods = record { class = 30; side = OfInstance; selector = 9; code = 0 } ∷ record { class = 31; side = OfInstance; selector = 9; code = 1 } ∷ [];
+      bodies =
+          record { kind = InMethod; class = Class 30; parameters = 0; captured = []; outer = None; statements = Return (Constant (Integer (pos 1))) ∷ [] } ∷
+          record { kind = InMethod; class = Class 31; parameters = 0; captured = []; outer = None; statements = Return (Send 10 (SuperSend 9 no_trees) (more_trees (Constant (Integer (pos 1))) no_trees)) ∷ [] } ∷
+          record { kind = InInitializer; class = Class 1; parameters = 0; captured = []; outer = None; statements = Plain (Send 12 (Constant Transcript) (more_trees (Send 8 (Send 9 (Send 11 (Constant (Class 32)) no_trees) no_trees) no_trees) no_trees)) ∷ [] } ∷ [];
+      initializers = record { code = 2; self = Nil; target = None } ∷ [];
+      literals = trouble_literals;
+      trouble_place = 0;
+      variables = 0;
+      step_limit = 10000000;
+      depth_limit = 10000;
+      cell_limit = 4194304;
+    }
+
+super_sent_runs : Reports super_sent 14 (record { ending = WasDone; transcript = codes "2"; steps = 6; depth = 3; cells = 3; events = [] })
+unfolding computing
+super_sent_runs = (refl, refl, refl)
