@@ -1,0 +1,5 @@
+mod Counts
+mod Only
+mod Readings
+mod Unsettled
+mod WordLemmas
