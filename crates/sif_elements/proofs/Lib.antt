@@ -1,5 +1,1 @@
-mod Counts
 mod Only
-mod Readings
-mod Unsettled
-mod WordLemmas

@@ -140,7 +140,7 @@ takes_text us t text (Bad byte why) q m h = absurd (goes_or_spoilt (sym h))
 takes_of : (p : Progress) (text : List ℕ) (q : Progress) → step_of p text ≡ Goes q → Takes p text q
 takes_of Start text q h = takes_first text (first_element text) q refl h
 takes_of (Between us) text q h = takes_element us text (element text) q refl h
-takes_of (Awaiting us t) text q h = takes_text us t text (verdict_of (production_of t) text (lexed_of text).tokens (lexed_of text).fault) q (verdict_right (production_of t) text (lexed_of text).tokens (lexed_of text).fault) h
+takes_of (Awaiting us t) text q h = takes_text us t text (verdict_of (production_of t) text (lexed_of text).tokens (lexed_of text).fault) q (verdict_right (production_of t) text (lexed_of text).fault (lexed_of text).tokens) h
 
 spoils_same : (p : Progress) (text : List ℕ) (a b : ℕ) (v w : Reason) → Spoilt a v ≡ Spoilt b w → Spoils p text a v → Spoils p text b w
 spoils_same p text a b v w e s = subst (λ x. Spoils p text x w) (spoilt_byte e) (subst (λ x. Spoils p text a x) (spoilt_why e) s)
@@ -168,27 +168,34 @@ spoils_text us t text (Bad byte why) b w m h = spoils_same (Awaiting us t) text 
 spoils_of : (p : Progress) (text : List ℕ) (b : ℕ) (w : Reason) → step_of p text ≡ Spoilt b w → Spoils p text b w
 spoils_of Start text b w h = spoils_first text (first_element text) b w refl h
 spoils_of (Between us) text b w h = spoils_element us text (element text) b w refl h
-spoils_of (Awaiting us t) text b w h = spoils_text us t text (verdict_of (production_of t) text (lexed_of text).tokens (lexed_of text).fault) b w (verdict_right (production_of t) text (lexed_of text).tokens (lexed_of text).fault) h
+spoils_of (Awaiting us t) text b w h = spoils_text us t text (verdict_of (production_of t) text (lexed_of text).tokens (lexed_of text).fault) b w (verdict_right (production_of t) text (lexed_of text).fault (lexed_of text).tokens) h
 
 -- ---- all elements
 
-chosen : {b : Bool} {x y : Answer} → b ≡ true → (if b then x else y) ≡ x
-chosen e = rw e refl
+chosen : {b : Bool} (x y : Answer) → b ≡ true → (if b then x else y) ≡ x
+chosen x y e = rw e refl
 
-passed : {b : Bool} {x y : Answer} → b ≡ false → (if b then x else y) ≡ y
-passed e = rw e refl
+passed : {b : Bool} (x y : Answer) → b ≡ false → (if b then x else y) ≡ y
+passed x y e = rw e refl
+
+-- an element that ends the reading, and one that goes on
+on_spoilt : (n byte : ℕ) (why : Reason) (step : Step) (later : Progress → Answer) → step ≡ Spoilt byte why → behind_step n step later ≡ Refuse n byte why
+on_spoilt n byte why step later e = rw e refl
+
+on_taken : (n : ℕ) (q : Progress) (step : Step) (later : Progress → Answer) → step ≡ Goes q → behind_step n step later ≡ later q
+on_taken n q step later e = rw e refl
 
 pub answers_made : {p : Progress} {ended : Bool} {n : ℕ} {texts : List (List ℕ)} {rest : List ℕ} {a : Answer} → Answers p ended n texts rest a → answer_on p ended n texts rest ≡ a
-answers_made (long_text h) = chosen (lt-ltb _ _ h)
-answers_made (white_text h w k) = passed (le-ltb _ _ h) ∙ chosen w ∙ answers_made k
-answers_made (spoiled h w s) = passed (le-ltb _ _ h) ∙ passed w ∙ ap (λ x. behind_step _ x _) (step_spoils s)
-answers_made (taken h w t k) = passed (le-ltb _ _ h) ∙ passed w ∙ ap (λ x. behind_step _ x _) (step_takes t) ∙ answers_made k
-answers_made (long_rest h) = chosen (lt-ltb _ _ h)
-answers_made (long_input h) = passed (le-ltb _ _ h)
-answers_made (unfinished h w) = passed (le-ltb _ _ h) ∙ passed w
-answers_made (nothing_read h w) = passed (le-ltb _ _ h) ∙ chosen w
-answers_made (no_text_behind h w) = passed (le-ltb _ _ h) ∙ chosen w
-answers_made (all_read h w) = passed (le-ltb _ _ h) ∙ chosen w
+answers_made (long_text h) = chosen _ _ (lt-ltb _ _ h)
+answers_made (white_text h w k) = passed _ _ (le-ltb _ _ h) ∙ chosen _ _ w ∙ answers_made k
+answers_made (spoiled h w s) = passed _ _ (le-ltb _ _ h) ∙ passed _ _ w ∙ on_spoilt _ _ _ _ _ (step_spoils s)
+answers_made (taken h w t k) = passed _ _ (le-ltb _ _ h) ∙ passed _ _ w ∙ on_taken _ _ _ _ (step_takes t) ∙ answers_made k
+answers_made (long_rest h) = chosen _ _ (lt-ltb _ _ h)
+answers_made (long_input h) = passed _ _ (le-ltb _ _ h)
+answers_made (unfinished h w) = passed _ _ (le-ltb _ _ h) ∙ passed _ _ w
+answers_made (nothing_read h w) = passed _ _ (le-ltb _ _ h) ∙ chosen _ _ w
+answers_made (no_text_behind h w) = passed _ _ (le-ltb _ _ h) ∙ chosen _ _ w
+answers_made (all_read h w) = passed _ _ (le-ltb _ _ h) ∙ chosen _ _ w
 
 rest_by : (p : Progress) (ended : Bool) (n : ℕ) (rest : List ℕ) (long white : Bool) → nat_lt max_text (length rest) ≡ long → is_white rest ≡ white
     → Answers p ended n [] rest (if long then Refuse n max_text reason.ElementTooLong else (if not ended then Refuse n (length rest) reason.InputTooLong else (if white then at_end p n else Refuse n (length rest) reason.Unfinished)))
