@@ -1,5 +1,7 @@
-// What a whole interchange file says, as a relation and computed, with the law that ties the two (ANSI NCITS 319, 4.1).
+// What a whole interchange file says, with the law that it says one thing, and the kinds of its elements (ANSI NCITS 319, 4.1).
 #![tactic(auto)]
 
 pub mod law;
 pub mod progress;
+pub mod rows;
+pub mod words;
