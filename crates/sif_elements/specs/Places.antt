@@ -1,0 +1,11 @@
+-- The places of an element, as the code has them.
+use Rattle.st_tree.specs.Headers as headers
+use Rattle.sif_elements.specs.declared.rows.Slot.{Slot}
+use Rattle.sif_elements.specs.declared.rows.Slot.TheVariants as slot
+
+abbrev pub place_of : Slot → headers.Slot
+place_of (slot.Word w) = headers.Word w.now
+place_of slot.AnyString = headers.AnyString
+place_of slot.NameString = headers.NameString
+place_of slot.NamesString = headers.NamesString
+place_of slot.Way = headers.Way
