@@ -1,4 +1,4 @@
--- The code of bodies: what the instruction machine runs for each expression and statement.
+-- The code of bodies: what the instruction machine runs for each expression and statement. This form is the profile's own.
 use Rattle.std.specs.Prelude.{ℕ, suc, List, [], ◌∷◌}
 use Rattle.object_heap.specs.declared.value.Value.{Value}
 use Rattle.object_heap.specs.declared.value.Value.TheVariants.{Nil}

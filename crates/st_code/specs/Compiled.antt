@@ -1,4 +1,4 @@
--- What a program is compiled to: the code of each body, with each variable where the machine keeps it.
+-- What a program is compiled to: the code of each body, with each variable where the machine keeps it. This form is the profile's own.
 use Rattle.std.specs.Prelude.{ℕ, zero, suc, ◌+◌, ◌-◌, max, Bool, true, false, List, [], ◌∷◌, map, get_or, Option, Some, None}
 use Rattle.object_heap.specs.declared.value.Value.{Value}
 use Rattle.object_heap.specs.declared.value.Value.TheVariants as value

@@ -1,4 +1,4 @@
--- Programs as they are written: trees with names, without the places of the text.
+-- Programs as they are written: trees with names, without the places of the text. This form is the profile's own.
 use Rattle.std.specs.Prelude.{ℕ, ℤ, Bool, List}
 use Rattle.st_code.specs.Texts.{Text}
 use Rattle.st_code.specs.Program.{Indexed}

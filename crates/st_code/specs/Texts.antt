@@ -1,4 +1,4 @@
--- Texts as lists of bytes: equality, ASCII letters, the forms of selectors, and how values are written.
+-- Texts as lists of bytes: equality, ASCII letters, the forms of selectors, and how values are written. Source: ANSI 3 (selectors and literals).
 use Rattle.std.specs.Prelude.{ℕ, suc, ◌+◌, ◌-◌, Bool, true, false, not, ◌&&◌, ◌||◌, List, [], ◌∷◌, ◌++◌, nat_eq, nat_le, if◌then◌else◌, codes}
 
 abbrev pub Text : Type 0

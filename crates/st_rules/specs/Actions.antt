@@ -1,4 +1,4 @@
--- What a message does at once: a value, a trouble, a limit, or what the rules and the machine have to begin.
+-- What a message does at once: a value, a trouble, a limit, or what the rules and the machine have to begin. Source: ANSI 5.
 use Rattle.std.specs.Prelude.{ℕ, ◌+◌, ℤ, Bool, true, false, List, [], ◌∷◌, None, length, replicate}
 use Rattle.object_heap.specs.declared.value.Value.{Value}
 use Rattle.object_heap.specs.declared.value.Value.TheVariants.{Nil, True, False, Object}

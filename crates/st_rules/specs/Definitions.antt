@@ -1,4 +1,4 @@
--- The program that the units of a file are: classes, variables, methods, initializers and bodies, each by its number in file order.
+-- The program that the units of a file are: classes, variables, methods, initializers and bodies, each by its number in file order. Source: ANSI 3 (names and scopes) and 4 (units).
 use Rattle.std.specs.Prelude.{ℕ, suc, ◌+◌, true, List, [], ◌∷◌, ◌++◌, map, length, Option, Some, None}
 use Rattle.object_heap.specs.declared.value.Value.{Value}
 use Rattle.object_heap.specs.declared.value.Value.TheVariants.{Nil, Class}

@@ -1,4 +1,4 @@
--- What the rules and the machine share: charges, variables, and what each activation makes of an outcome that reaches it.
+-- What the rules and the machine share: charges, variables, and what each activation makes of an outcome that reaches it. Source: ANSI 3 (bodies) and 5 (exceptions, termination blocks).
 use Rattle.std.specs.Prelude.{ℕ, ◌+◌, Bool, true, false, List, [], ◌∷◌, length, get_or, slice_set, Option, Some, None, nat_eq, if◌then◌else◌}
 use Rattle.object_heap.specs.declared.value.Value.{Value}
 use Rattle.object_heap.specs.declared.value.Value.TheVariants.{Nil, Symbol, Class, Object}

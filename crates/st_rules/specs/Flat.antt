@@ -1,4 +1,4 @@
--- The flat machine: a body keeps a code number, a position and operands, of which the variables that no block names are the first; the others stand in a scope that only a body with such variables has.
+-- The flat machine: a body keeps a code number, a position and operands, of which the variables that no block names are the first; the others stand in a scope that only a body with such variables has. This form is the profile's own.
 use Rattle.std.specs.Prelude.{ℕ, zero, suc, ◌+◌, Bool, true, false, List, [], ◌∷◌, reverse, length, get_or, slice_set, slice_get, Option, Some, None, nat_lt, if◌then◌else◌}
 use Rattle.object_heap.specs.declared.value.Value.{Value}
 use Rattle.object_heap.specs.declared.value.Value.TheVariants.{Nil}

@@ -1,4 +1,4 @@
--- What kind of value an argument is, the elements of collections, and how values are written.
+-- What kind of value an argument is, the elements of collections, and how values are written. Source: ANSI 5.
 use Rattle.std.specs.Prelude.{ℕ, zero, suc, ◌+◌, ◌-◌, ◌*◌, ◌/◌, ℤ, pos, negsuc, ◌+ℤ◌, ◌-ℤ◌, ◌*ℤ◌, int_lt, Bool, true, false, ◌&&◌, ◌||◌, List, [], ◌∷◌, ◌++◌, length, get_or, Option, Some, None, nat_eq, if◌then◌else◌, codes}
 use Rattle.std.specs.Fmt.{signed_decimal, digits}
 use Rattle.object_heap.specs.declared.value.Value.{Value}

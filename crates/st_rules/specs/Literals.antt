@@ -1,4 +1,4 @@
--- The objects that stand before a run begins: the literals of the program, and behind them the texts of troubles. They cost nothing and are read-only.
+-- The objects that stand before a run begins: the literals of the program, and behind them the texts of troubles. They cost nothing and are read-only. Source: ANSI 3 (literals).
 use Rattle.std.specs.Prelude.{List, [], map, length, true, None}
 use Rattle.object_heap.specs.declared.value.Value.{Value}
 use Rattle.object_heap.specs.Store.{Object}

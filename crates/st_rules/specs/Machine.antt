@@ -1,4 +1,4 @@
--- The instruction machine: what stands beside its bodies, and its small steps. An instruction runs, an outcome settles at the innermost activation, or a use of a rule begins. How a body keeps its variables and code is left open.
+-- The instruction machine: what stands beside its bodies, and its small steps. An instruction runs, an outcome settles at the innermost activation, or a use of a rule begins. How a body keeps its variables and code is left open. This form is the profile's own.
 use Rattle.std.specs.Prelude.{ℕ, zero, suc, ◌+◌, Bool, true, false, List, [], ◌∷◌, ◌++◌, length, Option, Some, None}
 use Rattle.object_heap.specs.declared.value.Value.{Value}
 use Rattle.object_heap.specs.declared.value.Value.TheVariants.{Nil, True, False, Object}

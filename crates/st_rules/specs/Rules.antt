@@ -1,4 +1,4 @@
--- The rules: what a use of a rule does, where each use inside another takes an index that is smaller by one.
+-- The rules: what a use of a rule does, where each use inside another takes an index that is smaller by one. Source: ANSI 3 and 5, as each part says.
 use Rattle.std.specs.Prelude.{ℕ, zero, suc, ◌+◌, ◌-◌, Bool, true, false, List, [], ◌∷◌, ◌++◌, length, replicate, take, Option, Some, None, nat_eq, codes}
 use Rattle.object_heap.specs.declared.value.Value.{Value}
 use Rattle.object_heap.specs.declared.value.Value.TheVariants.{Nil, True, False, Object}
@@ -108,7 +108,7 @@ module _ (p : Program) (next : Next) where
       charged (used p (scope_cells (body_at p x.code)) st1) (stop CellLimit st1) (λ st2.
       next.use' (RunBody (frame_of x st2.store) x.env) standing (with_store st2 (with_opened p x st2.store))))
 
-  -- ---- signals
+  -- ---- signals (ANSI 5)
 
   abbrev pub signal_by : ℕ → ℕ → SignalVerdict → Env → List Mark → State → Result
   signal_by n e (Ends o) env standing st = Yields o (ended n o st)
@@ -130,7 +130,7 @@ module _ (p : Program) (next : Next) where
       charged (used p (exception_cells p class) st2) (stop CellLimit st2) (λ st3.
       next.use' (SignalPoint st.next (length st3.store.objects) env) standing (with_store st3 (with_exception p class slots st3.store))))
 
-  -- ---- searches
+  -- ---- searches (ANSI 5)
 
   -- the judged entry fits, or the search goes on in its outside
   abbrev pub tried : Bool → Search → Entry → Env → List Mark → State → Result
@@ -153,7 +153,7 @@ module _ (p : Program) (next : Next) where
   search x [] standing st = next.use' (TurnBy x None x.whole) standing st
   search x (entry ∷ rest) standing st = judged (is_plain p st.store entry.selector) x entry rest standing st
 
-  -- ---- turns
+  -- ---- turns (ANSI 5)
 
   abbrev pub turn_after : ℕ → Turn → List Mark → Outcome → State → Result
   turn_after n t standing o st = Yields (turn_end t standing o) (ended n (turn_end t standing o) st)
@@ -170,7 +170,7 @@ module _ (p : Program) (next : Next) where
       let t = turn_for x (Some entry) outside in
       handle (next.use' (handler_by (closure_for p st.store entry.handler 0) entry.handler x.exception outside) (TurnMark st.next t ∷ standing) (told (Event.Handle st.next entry.number) st1)) (turn_after st.next t standing))
 
-  -- ---- exception actions
+  -- ---- exception actions (ANSI 5)
 
   abbrev pub pass : ℕ → ℕ → Turn → Purpose → List Mark → State → Result
   pass k e t purpose standing st = next.use' (SearchIn (turn_search k e t purpose) t.outside) standing (told (Event.Search k) st)
@@ -224,7 +224,7 @@ module _ (p : Program) (next : Next) where
   control NoTurn c v env standing st = next.use' (fail p NotActive env) standing st
   control (TurnAt k t) c v env standing st = control_in t.entry c v k t env standing st
 
-  -- ---- protection
+  -- ---- protection (ANSI 5)
 
   abbrev pub protect_by : Verdict → Entry → Env → List Mark → State → Result
   protect_by (Leaves o) entry env standing st = Yields o (ended entry.number o st)
@@ -243,7 +243,7 @@ module _ (p : Program) (next : Next) where
   curtail_after n block env standing (Go t v) st = finish n block (Go t v) env standing st
   curtail_after n block env standing (Stop l) st = Yields (Stop l) st
 
-  -- ---- loops
+  -- ---- loops (ANSI 5)
 
   abbrev pub visit_after : ℕ → LoopState → Env → List Mark → Outcome → State → Result
   visit_after n l env standing (Answer v) st = next.use' (VisitBy n (next_visit p st.store l v) env) standing st
@@ -257,7 +257,7 @@ module _ (p : Program) (next : Next) where
   visit n (Lacks l) env standing st = handle (next.use' (fail p NotFound env) (LoopMark n ∷ standing) st) (visit_after n l env standing)
   visit n (Charges cells s v) env standing st = charged (used p cells st) (stop CellLimit st) (λ st1. visit n v env standing (with_store st1 s))
 
-  -- ---- what a message does at once
+  -- ---- what a message does at once (ANSI 3 and 5)
 
   abbrev pub perform : Action → Env → List Mark → State → Result
   perform (Gives v) env standing st = Yields (Answer v) st
@@ -292,7 +292,7 @@ module _ (p : Program) (next : Next) where
   perform (Controls c e v) env standing st = control (turn_of e standing) c v env standing st
   perform (Terminates v) env standing st = Yields (Go Terminate v) st
 
-  -- ---- expressions, in a frame
+  -- ---- expressions, in a frame (ANSI 3)
 
   module _ (f : Frame) (env : Env) (standing : List Mark) where
     abbrev pub leave : Kind → Bool → Value → State → Result

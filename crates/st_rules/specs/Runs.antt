@@ -1,4 +1,4 @@
--- The run of a program by the rules: its initializers in file order, and the ending.
+-- The run of a program by the rules: its initializers in file order, and the ending. Source: ANSI 3 and 4 (initializers in file order); the counts are the profile's own.
 use Rattle.std.specs.Prelude.{◌≡◌, ℕ, List, [], ◌∷◌, replicate, Option, Some, None}
 use Rattle.object_heap.specs.declared.value.Value.{Value}
 use Rattle.object_heap.specs.declared.value.Value.TheVariants.{Nil}

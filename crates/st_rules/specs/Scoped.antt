@@ -1,4 +1,4 @@
--- The scoped machine: a body keeps its frame, its operands and the rest of its code, and all its variables stand in its scope.
+-- The scoped machine: a body keeps its frame, its operands and the rest of its code, and all its variables stand in its scope. This form is the profile's own.
 use Rattle.std.specs.Prelude.{ℕ, zero, suc, Bool, true, false, List, [], ◌∷◌}
 use Rattle.object_heap.specs.declared.value.Value.{Value}
 use Rattle.object_heap.specs.declared.trouble.Trouble.TheVariants.{HomeHasReturned}

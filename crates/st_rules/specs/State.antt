@@ -1,4 +1,4 @@
--- What a run has at a moment, what stands, and where an unwinding goes.
+-- What a run has at a moment, what stands, and where an unwinding goes. Source: ANSI 3 (scopes, activations, homes) and 5 (exceptions); the counts are the profile's own.
 use Rattle.std.specs.Prelude.{ℕ, zero, suc, ◌+◌, max, Bool, true, false, List, [], ◌∷◌, ◌++◌, length, Option, Some, None, nat_eq, nat_lt, nat_le, if◌then◌else◌}
 use Rattle.object_heap.specs.declared.value.Value.{Value}
 use Rattle.object_heap.specs.declared.value.Value.TheVariants.{Nil}

@@ -1,4 +1,4 @@
--- The run of a program by a machine: its initializers in file order; and its turns, each one instruction with what it brings until the next.
+-- The run of a program by a machine: its initializers in file order; and its turns, each one instruction with what it brings until the next. This form is the profile's own.
 use Rattle.std.specs.Prelude.{◌≡◌, ℕ, zero, suc, ◌+◌, List, [], ◌∷◌, Option}
 use Rattle.st_code.specs.Program.{Program, Initializer}
 use Rattle.st_rules.specs.State.{State, Answer}
