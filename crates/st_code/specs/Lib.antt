@@ -4,3 +4,8 @@ pub mod Code
 pub mod Compiled
 pub mod Named
 pub mod Resolved
+pub mod Messages
+pub mod BuiltIns
+pub mod Lookup
+pub mod Literals
+pub mod Definitions

@@ -6,7 +6,7 @@ use Rattle.st_rules.specs.Events.{Event}
 use Rattle.st_rules.proofs.Computing.{Reports, computing, WasDone}
 use Rattle.st_code.specs.Named.{IntegerLiteral, StringLiteral, NameOf, SelfName, LiteralOf, BlockOf, OperandOf, no_operands, more_operands, none_sent, then_sent, ExprOf, no_statements, more_statements, NamedUnit, ClassUnit, PoolVariableUnit, PoolInitializerUnit, ProgramUnit, MethodUnit, ClassMethodUnit}
 use Rattle.st_code.specs.Resolved.{captured_of, meant, meant_outside}
-use Rattle.st_rules.specs.Definitions.{program_of, names_of}
+use Rattle.st_code.specs.Definitions.{program_of, names_of}
 
 -- Smalltalk interchangeVersion: '1.0'!
 -- Pool named: 'BankLimits'!

@@ -5,8 +5,8 @@ use Rattle.object_heap.specs.declared.value.Value.TheVariants.{Nil, Integer, Cla
 use Rattle.st_code.specs.Program.{Program, Scoped, Constant, Variable, Assign, Block, Send, no_trees, more_trees, Plain, Return, InMethod, InBlock, InInitializer, OfInstance, NoIndexes}
 use Rattle.st_rules.specs.Events.{Event}
 use Rattle.st_rules.specs.State.{StepLimit, DepthLimit, CellLimit}
-use Rattle.st_rules.specs.BuiltIns.{built_in_class_rows}
-use Rattle.st_rules.specs.Literals.{literal_string, trouble_literals}
+use Rattle.st_code.specs.BuiltIns.{built_in_class_rows}
+use Rattle.st_code.specs.Literals.{literal_string, trouble_literals}
 use Rattle.st_rules.proofs.Computing.{Reports, computing, WasDone, WasUnhandled, WasAtLimit}
 
 -- Global initializer!Transcript show: ([Error signal. 1] on: Error do: [:e | 7]) printString!

@@ -5,10 +5,10 @@ use Rattle.object_heap.specs.declared.value.Value.TheVariants.{Nil, Object}
 use Rattle.object_heap.specs.Store.{object_at}
 use Rattle.st_code.specs.Program.{Tree, Constant, Self, Variable, Assign, Block, Send, SuperSend, Cascade, SuperCascade, Trees, no_trees, more_trees, Messages, no_messages, more_messages, Statement, Plain, Return, Kind, InMethod, InBlock, InInitializer, Program, body_at, Initializer}
 use Rattle.st_rules.specs.State.{State, Entry, Env, Outcome, Answer, Go, Stop, Turn, Mark, BodyMark, Frame, step_made, stood, used, scope_cells, stands, is_live, FoundTurn, NoTurn, TurnAt, turn_of}
-use Rattle.st_rules.specs.Messages.{Control}
-use Rattle.st_rules.specs.Lookup.{is_plain, fits, is_exception}
-use Rattle.st_rules.specs.Actions.{Action, Gives, Changes, Makes, Writes, Fails, DividesByZero, PassesIntegers, Begins, Activates, Sends, Misses, Enters, Guards, Ensures, Curtails, Iterates, Raises, RaisesNew, Controls, Terminates, LoopState, Visit, Applies, Compares, Finishes, Lacks, Charges}
-use Rattle.st_rules.specs.Kinds.{is_true}
+use Rattle.st_code.specs.Messages.{Control}
+use Rattle.st_code.specs.Lookup.{is_plain, fits, is_exception}
+use Rattle.st_collections.specs.Actions.{Action, Gives, Changes, Makes, Writes, Fails, DividesByZero, PassesIntegers, Begins, Activates, Sends, Misses, Enters, Guards, Ensures, Curtails, Iterates, Raises, RaisesNew, Controls, Terminates, LoopState, Visit, Applies, Compares, Finishes, Lacks, Charges}
+use Rattle.st_collections.specs.Kinds.{is_true}
 use Rattle.st_rules.specs.Ends.{Result, Yields, NoIndex, charged, handle, then_value, Opening, initializer_opening, SignalVerdict, Ends, Signals, signal_end, Verdict, Leaves, Again, protect_end, Search, asks_nested, Wait, ToResume, ToOuter}
 use Rattle.st_rules.specs.Rules.{Use, Apply, Activate, Enter, SendTo, SuperTo, Perform, Raise, RaiseNew, SignalPoint, Resignaled, SearchIn, TurnBy, Ask, Protect, Finish, VisitBy, RunBody, Next, opened, signal_by, raise, raise_new, tried, handles_after, judged, search, turn_by, asked, wait_after, resignal, resignal_as, control_by, control_without, control_in, control, protect_by, ensure_after, curtail_after, visit_after, visit, perform, leave, eval_args, eval_messages, eval, eval_body, rule, at_index, exception_cells}
 use Rattle.st_rules.specs.Runs.{Ending, Runs, run_from, first_state, end_of, kept_value}

@@ -5,8 +5,8 @@ use Rattle.object_heap.specs.declared.value.Value.TheVariants.{Nil, True, Intege
 use Rattle.st_code.specs.Program.{Program, Scoped, Shared, Constant, Variable, Assign, Block, Send, SuperSend, Cascade, SuperCascade, no_trees, more_trees, no_messages, more_messages, Plain, Return, InMethod, InBlock, InInitializer, OfInstance, NoIndexes}
 use Rattle.st_rules.specs.Events.{Event}
 use Rattle.st_rules.specs.State.{IntegerLimit}
-use Rattle.st_rules.specs.BuiltIns.{built_in_class_rows}
-use Rattle.st_rules.specs.Literals.{literal_string, literal_array, trouble_literals}
+use Rattle.st_code.specs.BuiltIns.{built_in_class_rows}
+use Rattle.st_code.specs.Literals.{literal_string, literal_array, trouble_literals}
 use Rattle.st_rules.proofs.Computing.{Reports, computing, WasDone, WasUnhandled, WasAtLimit}
 
 -- Global initializer!Transcript show: 'hi'; cr!

@@ -7,11 +7,11 @@ use Rattle.object_heap.specs.Store.{object_at}
 use Rattle.st_code.specs.Program.{Tree, Constant, Self, Variable, Assign, Block, Send, SuperSend, Cascade, SuperCascade, Trees, no_trees, more_trees, Messages, no_messages, more_messages, Statement, Plain, Return, Kind, InMethod, InBlock, InInitializer, Program, body_at}
 use Rattle.st_code.specs.Code.{Instr, Pop, Store as StoreVariable, SendMessage, SendSuper, return_of, count_of, pop_for, code, code_args, code_messages, end_code, code_on, code_body}
 use Rattle.st_rules.specs.State.{State, Entry, Env, StepLimit, DepthLimit, CellLimit, Outcome, Answer, Go, Stop, Turn, Mark, BodyMark, Frame, step_made, stood, used, scope_cells, stands, is_live, FoundTurn, NoTurn, TurnAt, turn_of}
-use Rattle.st_rules.specs.Messages.{Control}
-use Rattle.st_rules.specs.Lookup.{is_plain, fits, is_exception}
-use Rattle.st_rules.specs.Actions.{Action, Gives, Changes, Makes, Writes, Fails, DividesByZero, PassesIntegers, Begins, Activates, Sends, Misses, Enters, Guards, Ensures, Curtails, Iterates, Raises, RaisesNew, Controls, Terminates, LoopState, Visit, Applies, Compares, Finishes, Lacks, Charges}
-use Rattle.st_rules.specs.Kinds.{is_true}
-use Rattle.st_rules.specs.Loops.{next_visit}
+use Rattle.st_code.specs.Messages.{Control}
+use Rattle.st_code.specs.Lookup.{is_plain, fits, is_exception}
+use Rattle.st_collections.specs.Actions.{Action, Gives, Changes, Makes, Writes, Fails, DividesByZero, PassesIntegers, Begins, Activates, Sends, Misses, Enters, Guards, Ensures, Curtails, Iterates, Raises, RaisesNew, Controls, Terminates, LoopState, Visit, Applies, Compares, Finishes, Lacks, Charges}
+use Rattle.st_collections.specs.Kinds.{is_true}
+use Rattle.st_collections.specs.Loops.{next_visit}
 use Rattle.st_rules.specs.Ends.{Result, Opening, block_opening, method_opening, ended, SignalVerdict, Ends, Signals, signal_end, Verdict, Leaves, Again, protect_end, Purpose, ForPass, ForOuter, Search, turn_for, asks_nested, Wait, ToResume, ToOuter, onto}
 use Rattle.st_rules.specs.Rules.{Use, Apply, Activate, Enter, SendTo, SuperTo, Perform, Raise, RaiseNew, SignalPoint, Resignaled, SearchIn, TurnBy, Ask, Protect, Finish, VisitBy, RunBody, Next, fail, apply_by, handler_by, closure_for, exception_cells, opened, signal_by, raise, raise_new, tried, handles_after, judged, search, turn_by, pass, asked, wait_after, resignal, resignal_as, control_by, control_without, control_in, control, protect_by, finish, ensure_after, curtail_after, visit_after, visit, perform, leave, eval_args, eval_messages, eval, eval_body, rule, at_index}
 use Rattle.st_rules.specs.Machine.{Act, BodyAct, Leaving, ProtectAct, EnsureOn, CurtailOn, ActionOff, SignalAct, HandlerRun, OuterAct, ResumeWait, HandlesWait, LoopAct, Mach, Run, Settle, Begin, Over, marks, open_act, raise_act, raise_new_act, tried_act, judged_act, search_act, turn_act, pass_act, asked_act, resignal_act, resignal_as_act, control_by_act, control_without_act, control_in_act, control_act, visit_act, perform_act, begin, protect_verdict, signal_verdict, finish_act}

@@ -4,8 +4,8 @@ use Rattle.std.specs.Prelude.{codes}
 use Rattle.object_heap.specs.declared.value.Value.TheVariants.{Nil, True, False, Integer, Symbol, Class, Transcript, Object}
 use Rattle.st_code.specs.Program.{Program, Scoped, Shared, Constant, Self, Variable, Assign, Block, Send, Cascade, no_trees, more_trees, no_messages, more_messages, Plain, Return, InMethod, InBlock, InInitializer, OfInstance, NoIndexes}
 use Rattle.st_rules.specs.Events.{Event}
-use Rattle.st_rules.specs.BuiltIns.{built_in_class_rows}
-use Rattle.st_rules.specs.Literals.{literal_string, trouble_literals}
+use Rattle.st_code.specs.BuiltIns.{built_in_class_rows}
+use Rattle.st_code.specs.Literals.{literal_string, trouble_literals}
 use Rattle.st_rules.proofs.Computing.{Reports, computing, WasDone}
 
 -- Global initializer!Transcript show: ([[Error signal] on: Error do: [:e | e resume: 1]] on: Error do: [:e | e messageText])!

@@ -4,8 +4,8 @@ use Rattle.std.specs.Prelude.{codes}
 use Rattle.object_heap.specs.declared.value.Value.TheVariants.{Nil, True, Integer, Class, Transcript, Object}
 use Rattle.st_code.specs.Program.{Program, Scoped, Shared, Constant, Variable, Assign, Block, Send, no_trees, more_trees, Plain, Return, InMethod, InBlock, InInitializer, OfInstance, NoIndexes}
 use Rattle.st_rules.specs.Events.{Event}
-use Rattle.st_rules.specs.BuiltIns.{built_in_class_rows}
-use Rattle.st_rules.specs.Literals.{literal_string, trouble_literals}
+use Rattle.st_code.specs.BuiltIns.{built_in_class_rows}
+use Rattle.st_code.specs.Literals.{literal_string, trouble_literals}
 use Rattle.st_rules.proofs.Computing.{Reports, computing, WasDone, WasUnhandled}
 
 -- Class named: 'Q' superclass: 'Object'!Q method!blk ^[^1]!Global initializer!| b | b := Q new blk. Transcript show: ([b value] on: Error do: [:e | e messageText]). b value!

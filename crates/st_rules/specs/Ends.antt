@@ -9,9 +9,9 @@ use Rattle.object_heap.specs.Store.{Store, with_slot, block_added}
 use Rattle.st_code.specs.Program.{Program, Place, Scoped, Slot, ClassSlot, Shared, Kind, InMethod, InBlock, InInitializer, Initializer, body_at, class_at}
 use Rattle.st_rules.specs.Events.{Event}
 use Rattle.st_rules.specs.State.{State, Entry, Env, Target, Home, Protected, Retry, RetryWith, Resume, Resignal, Limit, Outcome, Answer, Go, Stop, Turn, Mark, Frame, with_store, told, scoped_variable, with_scoped_variable, first_variables, with_scope, is_at_signal}
-use Rattle.st_rules.specs.BuiltIns.{array_class, block_class, message_class}
-use Rattle.st_rules.specs.Actions.{with_new}
-use Rattle.st_rules.specs.Kinds.{slot_of}
+use Rattle.st_code.specs.BuiltIns.{array_class, block_class, message_class}
+use Rattle.st_collections.specs.Actions.{with_new}
+use Rattle.st_collections.specs.Kinds.{slot_of}
 
 -- an outcome and a state, or none at this index
 pub data Result : Type 0 where

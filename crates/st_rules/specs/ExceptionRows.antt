@@ -6,11 +6,11 @@ use Rattle.object_heap.specs.declared.value.Closure.{Closure}
 use Rattle.object_heap.specs.declared.trouble.Trouble.TheVariants.{WrongNumberOfArguments, CollectionExpected, ExceptionSelectorExpected, ExceptionExpected}
 use Rattle.object_heap.specs.Store.{Store, object_at, closure_at, with_slot}
 use Rattle.st_code.specs.Program.{Program, body_at, class_at}
-use Rattle.st_rules.specs.BuiltIns.{array_class, exception_set_class}
-use Rattle.st_rules.specs.Messages.{BlockMessage, ExceptionMessage}
-use Rattle.st_rules.specs.Lookup.{is_plain, fits, is_exception}
-use Rattle.st_rules.specs.Actions.{Action, Gives, Changes, Writes, Fails, Activates, Guards, Ensures, Curtails, Raises, RaisesNew, Controls, Terminates, boolean, first, second, makes_slots, makes_string, makes_blank}
-use Rattle.st_rules.specs.Kinds.{is_a, slots_of, slot_of, exception_text}
+use Rattle.st_code.specs.BuiltIns.{array_class, exception_set_class}
+use Rattle.st_code.specs.Messages.{BlockMessage, ExceptionMessage}
+use Rattle.st_code.specs.Lookup.{is_plain, fits, is_exception}
+use Rattle.st_collections.specs.Actions.{Action, Gives, Changes, Writes, Fails, Activates, Guards, Ensures, Curtails, Raises, RaisesNew, Controls, Terminates, boolean, first, second, makes_slots, makes_string, makes_blank}
+use Rattle.st_collections.specs.Kinds.{is_a, slots_of, slot_of, exception_text}
 
 -- ---- Blocks
 

@@ -12,9 +12,9 @@ use Rattle.st_code.specs.declared.instruction.CodeKind.TheVariants.{Block as Blo
 use Rattle.st_code.specs.Compiled.{Compiled, constant_value, any_captured}
 use Rattle.st_code.specs.Program.{Program}
 use Rattle.st_rules.specs.State.{State, Env, Home, CellLimit, Answer, Go, BodyMark, with_store, used, first_variables, scoped_variable, with_scoped_variable, stands}
-use Rattle.st_rules.specs.BuiltIns.{block_class}
-use Rattle.st_rules.specs.Actions.{next_object}
-use Rattle.st_rules.specs.Kinds.{slot_of}
+use Rattle.st_code.specs.BuiltIns.{block_class}
+use Rattle.st_collections.specs.Actions.{next_object}
+use Rattle.st_collections.specs.Kinds.{slot_of}
 use Rattle.st_rules.specs.Ends.{charged, Opening, shared, first_class_slot, with_self_slot}
 use Rattle.st_rules.specs.Rules.{SendTo, SuperTo, fail}
 use Rattle.st_rules.specs.Machine.{Act, BodyAct, Leaving, Mach, Run, Settle, Begin, Bodies, marks, stopped}

@@ -7,12 +7,12 @@ use Rattle.object_heap.specs.Store.{Store, object_at}
 use Rattle.st_code.specs.Program.{Program, body_at}
 use Rattle.st_rules.specs.Events.{Event}
 use Rattle.st_rules.specs.State.{State, Entry, Env, Target, Protected, Retry, RetryWith, Resume, Resignal, Terminate, Limit, StepLimit, DepthLimit, CellLimit, IntegerLimit, Outcome, Answer, Go, Stop, Turn, Mark, BodyMark, ProtectMark, ActionMark, LoopMark, WaitMark, OuterMark, SignalMark, TurnMark, with_store, told, step_made, stood, used, scope_cells, is_live, FoundTurn, NoTurn, TurnAt, turn_of}
-use Rattle.st_rules.specs.BuiltIns.{zero_divide_class}
-use Rattle.st_rules.specs.Messages.{Control}
-use Rattle.st_rules.specs.Lookup.{is_plain, fits, is_exception}
-use Rattle.st_rules.specs.Actions.{Action, Gives, Changes, Makes, Writes, Fails, DividesByZero, PassesIntegers, Begins, Activates, Sends, Misses, Enters, Guards, Ensures, Curtails, Iterates, Raises, RaisesNew, Controls, Terminates, LoopState, Visit, Applies, Compares, Finishes, Lacks, Charges, next_object}
-use Rattle.st_rules.specs.Kinds.{is_true}
-use Rattle.st_rules.specs.Loops.{first_visit, next_visit}
+use Rattle.st_code.specs.BuiltIns.{zero_divide_class}
+use Rattle.st_code.specs.Messages.{Control}
+use Rattle.st_code.specs.Lookup.{is_plain, fits, is_exception}
+use Rattle.st_collections.specs.Actions.{Action, Gives, Changes, Makes, Writes, Fails, DividesByZero, PassesIntegers, Begins, Activates, Sends, Misses, Enters, Guards, Ensures, Curtails, Iterates, Raises, RaisesNew, Controls, Terminates, LoopState, Visit, Applies, Compares, Finishes, Lacks, Charges, next_object}
+use Rattle.st_collections.specs.Kinds.{is_true}
+use Rattle.st_collections.specs.Loops.{first_visit, next_visit}
 use Rattle.st_rules.specs.Sends.{send_action, super_action}
 use Rattle.st_rules.specs.Ends.{charged, ended, trouble_text, with_arguments, with_message, Opening, block_opening, method_opening, at_home, turn_end, outer_end, SignalVerdict, Ends, Signals, signal_end, Verdict, Leaves, Again, protect_end, action_end, Purpose, ForPass, ForOuter, ForNested, Search, signal_search, turn_search, turn_for, asks_nested, Wait, ToResume, ToOuter}
 use Rattle.st_rules.specs.Rules.{Use, Apply, Activate, Enter, SendTo, SuperTo, Perform, Raise, RaiseNew, SignalPoint, Resignaled, SearchIn, TurnBy, Ask, Protect, Finish, VisitBy, RunBody, sends_equal, sends_default_action, sends_is_resumable, sends_handles, sends_not_understood, with_exception, exception_cells, closure_for, fail, apply_by, handler_by}

@@ -6,10 +6,10 @@ use Rattle.object_heap.specs.declared.value.Value.TheVariants.{Integer, Object}
 use Rattle.object_heap.specs.declared.trouble.Trouble.TheVariants.{NumberExpected, StepIsZero, BadRadix}
 use Rattle.object_heap.specs.Store.{Store}
 use Rattle.st_code.specs.Program.{Program}
-use Rattle.st_rules.specs.BuiltIns.{fraction_class, interval_class}
-use Rattle.st_rules.specs.Messages.{NumberMessage}
-use Rattle.st_rules.specs.Actions.{Action, Gives, Fails, DividesByZero, PassesIntegers, boolean, first, second, makes_slots, makes_string}
-use Rattle.st_rules.specs.Kinds.{is_a, slot_of, integer_of, natural_of, interval_size, print_text}
+use Rattle.st_code.specs.BuiltIns.{fraction_class, interval_class}
+use Rattle.st_code.specs.Messages.{NumberMessage}
+use Rattle.st_collections.specs.Actions.{Action, Gives, Fails, DividesByZero, PassesIntegers, boolean, first, second, makes_slots, makes_string}
+use Rattle.st_collections.specs.Kinds.{is_a, slot_of, integer_of, natural_of, interval_size, print_text}
 use Rattle.st_rules.specs.Numbers.{Ratio, whole, Sum, gcd, in_range, floor_div, floor_mod, and_bits, or_bits, xor_bits, shifted, reduced, quotient_of, product_of, sum_of, negative_of, ratio_less, ratio_at_most, truncated}
 
 -- the number that a value is

@@ -9,13 +9,13 @@ use Rattle.object_heap.specs.Store.{Store, object_at}
 use Rattle.st_code.specs.Program.{Tree, Constant, Self, Variable, Assign, Block, Send, SuperSend, Cascade, SuperCascade, Trees, no_trees, more_trees, Messages, no_messages, more_messages, Statement, Plain, Return, Kind, InMethod, InBlock, InInitializer, Program, body_at, class_at, number_of}
 use Rattle.st_rules.specs.Events.{Event}
 use Rattle.st_rules.specs.State.{State, Entry, Env, Home, Protected, Retry, RetryWith, Resume, Resignal, Terminate, StepLimit, DepthLimit, CellLimit, IntegerLimit, Outcome, Answer, Go, Stop, Turn, Mark, BodyMark, ProtectMark, ActionMark, LoopMark, WaitMark, OuterMark, SignalMark, TurnMark, Frame, with_store, told, step_made, stood, used, scope_cells, stands, is_live, FoundTurn, NoTurn, TurnAt, turn_of}
-use Rattle.st_rules.specs.BuiltIns.{error_class, zero_divide_class}
-use Rattle.st_rules.specs.Messages.{Control}
-use Rattle.st_rules.specs.Lookup.{is_plain, fits, is_exception}
-use Rattle.st_rules.specs.Actions.{Action, Gives, Changes, Makes, Writes, Fails, DividesByZero, PassesIntegers, Begins, Activates, Sends, Misses, Enters, Guards, Ensures, Curtails, Iterates, Raises, RaisesNew, Controls, Terminates, LoopState, Visit, Applies, Compares, Finishes, Lacks, Charges, next_object, with_new}
-use Rattle.st_rules.specs.Kinds.{is_true}
+use Rattle.st_code.specs.BuiltIns.{error_class, zero_divide_class}
+use Rattle.st_code.specs.Messages.{Control}
+use Rattle.st_code.specs.Lookup.{is_plain, fits, is_exception}
+use Rattle.st_collections.specs.Actions.{Action, Gives, Changes, Makes, Writes, Fails, DividesByZero, PassesIntegers, Begins, Activates, Sends, Misses, Enters, Guards, Ensures, Curtails, Iterates, Raises, RaisesNew, Controls, Terminates, LoopState, Visit, Applies, Compares, Finishes, Lacks, Charges, next_object, with_new}
+use Rattle.st_collections.specs.Kinds.{is_true}
 use Rattle.st_rules.specs.ExceptionRows.{closure_of, parameters_of}
-use Rattle.st_rules.specs.Loops.{first_visit, next_visit}
+use Rattle.st_collections.specs.Loops.{first_visit, next_visit}
 use Rattle.st_rules.specs.Sends.{send_action, super_action}
 use Rattle.st_rules.specs.Ends.{Result, Yields, NoIndex, charged, handle, then_value, stop, ended, trouble_text, read_place, write_place, with_block, with_arguments, with_message, Opening, block_opening, method_opening, frame_of, with_opened, body_end, left_end, turn_end, outer_end, SignalVerdict, Ends, Signals, signal_end, Verdict, Leaves, Again, protect_end, action_end, Purpose, ForPass, ForOuter, ForNested, Search, signal_search, turn_search, turn_for, asks_nested, Wait, ToResume, ToOuter, onto}
 

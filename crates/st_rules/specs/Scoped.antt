@@ -5,7 +5,7 @@ use Rattle.object_heap.specs.declared.trouble.Trouble.TheVariants.{HomeHasReturn
 use Rattle.object_heap.specs.Store.{Store}
 use Rattle.st_code.specs.Program.{Program, body_at}
 use Rattle.st_rules.specs.State.{State, Env, Home, CellLimit, Answer, Go, BodyMark, Frame, with_store, used, stands}
-use Rattle.st_rules.specs.Actions.{next_object}
+use Rattle.st_collections.specs.Actions.{next_object}
 use Rattle.st_rules.specs.Ends.{charged, read_place, write_place, with_block, Opening, frame_of, with_opened}
 use Rattle.st_rules.specs.Rules.{SendTo, SuperTo, fail}
 use Rattle.st_code.specs.Code.{Instr, PushConstant, PushSelf, Pop, Dup, PushVariable, Store as StoreVariable, SendMessage, SendSuper, MakeBlock, MethodReturn, HomeReturn, BlockEnd, code_body}

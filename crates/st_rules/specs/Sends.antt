@@ -3,16 +3,16 @@ use Rattle.std.specs.Prelude.{ℕ, List, Option, Some, None}
 use Rattle.object_heap.specs.declared.value.Value.{Value}
 use Rattle.object_heap.specs.Store.{Store}
 use Rattle.st_code.specs.Program.{Program}
-use Rattle.st_rules.specs.Messages.{Row, Objects, Classes, Booleans, Numbers, Characters, Transcripts, Strings, Sequences, Collections, Blocks, Exceptions, Loops, Slots}
-use Rattle.st_rules.specs.Lookup.{Found, UserMethod, BuiltIn, level_of, lookup, super_lookup}
-use Rattle.st_rules.specs.Actions.{Action, Gives, Enters, Misses}
-use Rattle.st_rules.specs.Kinds.{slot_of}
-use Rattle.st_rules.specs.ObjectRows.{object_action, class_action, boolean_action}
+use Rattle.st_code.specs.Messages.{Row, Objects, Classes, Booleans, Numbers, Characters, Transcripts, Strings, Sequences, Collections, Blocks, Exceptions, Loops, Slots}
+use Rattle.st_code.specs.Lookup.{Found, UserMethod, BuiltIn, level_of, lookup, super_lookup}
+use Rattle.st_collections.specs.Actions.{Action, Gives, Enters, Misses}
+use Rattle.st_collections.specs.Kinds.{slot_of}
+use Rattle.st_collections.specs.ObjectRows.{object_action, class_action, boolean_action}
 use Rattle.st_rules.specs.NumberRows.{number_action}
-use Rattle.st_rules.specs.TextRows.{character_action, string_action, transcript_action}
-use Rattle.st_rules.specs.SequenceRows.{sequence_action, collection_action}
+use Rattle.st_collections.specs.TextRows.{character_action, string_action, transcript_action}
+use Rattle.st_collections.specs.SequenceRows.{sequence_action, collection_action}
 use Rattle.st_rules.specs.ExceptionRows.{block_action, exception_action}
-use Rattle.st_rules.specs.Loops.{loop_action}
+use Rattle.st_collections.specs.Loops.{loop_action}
 
 -- a row of the table
 unfoldable pub row_action : Program → Store → Row → Value → List Value → Action

@@ -6,8 +6,8 @@ use Rattle.object_heap.specs.declared.value.Value.TheVariants.{Nil, True, False,
 use Rattle.object_heap.specs.Store.{Store, object_at}
 use Rattle.st_code.specs.Texts.{Text, quoted, symbol_text, with_article}
 use Rattle.st_code.specs.Program.{Program, class_at, name_at}
-use Rattle.st_rules.specs.BuiltIns.{string_class, symbol_class, fraction_class, array_class, byte_array_class, ordered_collection_class, set_class, dictionary_class, interval_class, message_not_understood_class, message_class}
-use Rattle.st_rules.specs.Lookup.{class_of, class_text, inherits}
+use Rattle.st_code.specs.BuiltIns.{string_class, symbol_class, fraction_class, array_class, byte_array_class, ordered_collection_class, set_class, dictionary_class, interval_class, message_not_understood_class, message_class}
+use Rattle.st_code.specs.Lookup.{class_of, class_text, inherits}
 
 abbrev same_integer : ℤ → ℤ → Bool
 same_integer (pos a) (pos b) = nat_eq a b

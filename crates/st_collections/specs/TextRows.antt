@@ -6,10 +6,10 @@ use Rattle.object_heap.specs.declared.trouble.Trouble.TheVariants.{IndexOutOfRan
 use Rattle.object_heap.specs.Store.{Store}
 use Rattle.st_code.specs.Texts.{Text, same_text, text_less, is_upper, is_lower, is_digit, is_letter, to_upper, to_lower}
 use Rattle.st_code.specs.Program.{Program}
-use Rattle.st_rules.specs.BuiltIns.{symbol_class}
-use Rattle.st_rules.specs.Messages.{CharacterMessage, TranscriptMessage, StringMessage}
-use Rattle.st_rules.specs.Actions.{Action, Gives, Writes, Fails, boolean, first, makes_string}
-use Rattle.st_rules.specs.Kinds.{bytes_of}
+use Rattle.st_code.specs.BuiltIns.{symbol_class}
+use Rattle.st_code.specs.Messages.{CharacterMessage, TranscriptMessage, StringMessage}
+use Rattle.st_collections.specs.Actions.{Action, Gives, Writes, Fails, boolean, first, makes_string}
+use Rattle.st_collections.specs.Kinds.{bytes_of}
 
 -- ---- Characters
 

@@ -7,11 +7,11 @@ use Rattle.object_heap.specs.Store.{Store, Object as HeapObject, object_at, obje
 use Rattle.object_heap.specs.Charges.{object_charge}
 use Rattle.st_code.specs.Texts.{arity}
 use Rattle.st_code.specs.Program.{Program, Indexed, NoIndexes, ByObject, ByByte, Side, OfInstance, OfClass, same_side, class_at, name_at, number_of}
-use Rattle.st_rules.specs.BuiltIns.{array_class, association_class, error_class, message_not_understood_class}
-use Rattle.st_rules.specs.Messages.{ObjectMessage, ClassMessage, BooleanMessage}
-use Rattle.st_rules.specs.Lookup.{Level, level_of, walk, lookup, class_of}
-use Rattle.st_rules.specs.Actions.{Action, Gives, Changes, Makes, Fails, Begins, Sends, RaisesNew, boolean, first, second, next_object, makes_slots, makes_string, makes_blank}
-use Rattle.st_rules.specs.Kinds.{same_value, bytes_of, is_a, slots_of, print_text, is_true}
+use Rattle.st_code.specs.BuiltIns.{array_class, association_class, error_class, message_not_understood_class}
+use Rattle.st_code.specs.Messages.{ObjectMessage, ClassMessage, BooleanMessage}
+use Rattle.st_code.specs.Lookup.{Level, level_of, walk, lookup, class_of}
+use Rattle.st_collections.specs.Actions.{Action, Gives, Changes, Makes, Fails, Begins, Sends, RaisesNew, boolean, first, second, next_object, makes_slots, makes_string, makes_blank}
+use Rattle.st_collections.specs.Kinds.{same_value, bytes_of, is_a, slots_of, print_text, is_true}
 
 abbrev is_level : Side → ℕ → List Level → Bool
 is_level side class [] = false

@@ -6,8 +6,8 @@ use Rattle.object_heap.specs.declared.value.Value.TheVariants.{Nil, True, False,
 use Rattle.object_heap.specs.Store.{Store, object_at}
 use Rattle.st_code.specs.Texts.{Text}
 use Rattle.st_code.specs.Program.{Program, MethodRow, Side, OfInstance, OfClass, OfMeta, same_side, class_at, name_at, number_of}
-use Rattle.st_rules.specs.Messages.{Row}
-use Rattle.st_rules.specs.BuiltIns.{row_at, object_class, undefined_object_class, true_class, false_class, integer_class, character_class, symbol_class, class_class, metaclass_class, transcript_writer_class, exception_class}
+use Rattle.st_code.specs.Messages.{Row}
+use Rattle.st_code.specs.BuiltIns.{row_at, object_class, undefined_object_class, true_class, false_class, integer_class, character_class, symbol_class, class_class, metaclass_class, transcript_writer_class, exception_class}
 
 -- a side of a class, where methods are looked up
 pub record Level : Type 0 where

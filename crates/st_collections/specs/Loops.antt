@@ -6,12 +6,12 @@ use Rattle.object_heap.specs.declared.trouble.Trouble.TheVariants.{NumberExpecte
 use Rattle.object_heap.specs.Store.{Store, object_at, with_slot}
 use Rattle.object_heap.specs.Charges.{object_charge}
 use Rattle.st_code.specs.Program.{Program}
-use Rattle.st_rules.specs.BuiltIns.{string_class, array_class, ordered_collection_class, set_class, dictionary_class}
-use Rattle.st_rules.specs.Messages.{LoopMessage}
-use Rattle.st_rules.specs.Actions.{Action, Fails, Iterates, LoopState, Visit, Applies, Compares, Finishes, Lacks, Charges, boolean, first, second, third, next_object, with_new}
-use Rattle.st_rules.specs.Kinds.{same_value, is_true, is_a, slots_of, size_of, element, key, integer_of, natural_of, species}
-use Rattle.st_rules.specs.TextRows.{byte_of}
-use Rattle.st_rules.specs.SequenceRows.{with_elements, without_element}
+use Rattle.st_code.specs.BuiltIns.{string_class, array_class, ordered_collection_class, set_class, dictionary_class}
+use Rattle.st_code.specs.Messages.{LoopMessage}
+use Rattle.st_collections.specs.Actions.{Action, Fails, Iterates, LoopState, Visit, Applies, Compares, Finishes, Lacks, Charges, boolean, first, second, third, next_object, with_new}
+use Rattle.st_collections.specs.Kinds.{same_value, is_true, is_a, slots_of, size_of, element, key, integer_of, natural_of, species}
+use Rattle.st_collections.specs.TextRows.{byte_of}
+use Rattle.st_collections.specs.SequenceRows.{with_elements, without_element}
 
 -- ---- where a loop is, and what it has
 

@@ -6,12 +6,12 @@ use Rattle.object_heap.specs.declared.trouble.Trouble.TheVariants.{IndexOutOfRan
 use Rattle.object_heap.specs.declared.trouble.Trouble.{Trouble}
 use Rattle.object_heap.specs.Store.{Store, Object as HeapObject, object_at, object_set, with_slot, with_byte}
 use Rattle.st_code.specs.Program.{Program}
-use Rattle.st_rules.specs.BuiltIns.{string_class, byte_array_class, array_class, ordered_collection_class, dictionary_class, association_class}
-use Rattle.st_rules.specs.Messages.{SequenceMessage, CollectionMessage}
-use Rattle.st_rules.specs.Actions.{Action, Gives, Changes, Makes, Fails, boolean, first, second, makes_slots, makes_bytes}
-use Rattle.st_rules.specs.Kinds.{size_of, element, some_elements, elements, is_sequence, is_collection, species, integer_of, natural_of}
-use Rattle.st_rules.specs.ObjectRows.{indexed, index_in, byte_value, byte_put, sized}
-use Rattle.st_rules.specs.TextRows.{with_character, byte_of}
+use Rattle.st_code.specs.BuiltIns.{string_class, byte_array_class, array_class, ordered_collection_class, dictionary_class, association_class}
+use Rattle.st_code.specs.Messages.{SequenceMessage, CollectionMessage}
+use Rattle.st_collections.specs.Actions.{Action, Gives, Changes, Makes, Fails, boolean, first, second, makes_slots, makes_bytes}
+use Rattle.st_collections.specs.Kinds.{size_of, element, some_elements, elements, is_sequence, is_collection, species, integer_of, natural_of}
+use Rattle.st_collections.specs.ObjectRows.{indexed, index_in, byte_value, byte_put, sized}
+use Rattle.st_collections.specs.TextRows.{with_character, byte_of}
 
 abbrev byte_in : Value → ℕ
 byte_in v = natural_of (integer_of v)

@@ -3,7 +3,7 @@ use Rattle.std.specs.Prelude.{ℕ, Bool, true, false, ◌&&◌, List, [], ◌∷
 use Prim.Native.String.{String}
 use Rattle.st_code.specs.Texts.{Text, same_text}
 use Rattle.st_code.specs.Program.{Side, OfInstance, OfClass, same_side, ClassRow, NoIndexes}
-use Rattle.st_rules.specs.Messages.{ObjectMessage, ClassMessage, BooleanMessage, NumberMessage, CharacterMessage, TranscriptMessage, StringMessage, SequenceMessage, CollectionMessage, BlockMessage, Control, ExceptionMessage, LoopMessage, Row, Objects, Classes, Booleans, Numbers, Characters, Transcripts, Strings, Sequences, Collections, Blocks, Exceptions, Loops, Slots}
+use Rattle.st_code.specs.Messages.{ObjectMessage, ClassMessage, BooleanMessage, NumberMessage, CharacterMessage, TranscriptMessage, StringMessage, SequenceMessage, CollectionMessage, BlockMessage, Control, ExceptionMessage, LoopMessage, Row, Objects, Classes, Booleans, Numbers, Characters, Transcripts, Strings, Sequences, Collections, Blocks, Exceptions, Loops, Slots}
 
 -- a built-in class: its name, the number of its superclass, and how many named slots its instances have
 pub record BuiltInClass : Type 0 where

@@ -7,8 +7,8 @@ use Rattle.object_heap.specs.declared.trouble.Trouble.{Trouble}
 use Rattle.object_heap.specs.Store.{Store, Object as HeapObject, object_added}
 use Rattle.object_heap.specs.Charges.{object_charge}
 use Rattle.st_code.specs.Texts.{Text}
-use Rattle.st_rules.specs.BuiltIns.{string_class}
-use Rattle.st_rules.specs.Messages.{Control, LoopMessage}
+use Rattle.st_code.specs.BuiltIns.{string_class}
+use Rattle.st_code.specs.Messages.{Control, LoopMessage}
 
 -- a loop: its message, receiver and arguments, where it is, the value or collection made so far, the element being visited, and whether it waits for something else than a visit (a separator, the argument of a while loop, a block applied where none matched)
 pub record LoopState : Type 0 where

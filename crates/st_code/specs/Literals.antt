@@ -4,7 +4,7 @@ use Rattle.object_heap.specs.declared.value.Value.{Value}
 use Rattle.object_heap.specs.Store.{Object}
 use Rattle.object_heap.specs.Troubles.{trouble_texts}
 use Rattle.st_code.specs.Texts.{Text}
-use Rattle.st_rules.specs.BuiltIns.{string_class, array_class}
+use Rattle.st_code.specs.BuiltIns.{string_class, array_class}
 
 abbrev pub literal_string : Text → Object
 literal_string text = record { class = string_class; slots = []; bytes = text; capacity = 0; read_only = true; closure = None }

@@ -7,8 +7,8 @@ use Rattle.st_code.specs.Texts.{Text}
 use Rattle.st_code.specs.Program.{Kind, InMethod, InInitializer, Body, Statement, Side, OfInstance, OfClass, Indexed, NoIndexes, ClassRow, MethodRow, Initializer, Program}
 use Rattle.st_code.specs.Named.{NamedBody, NamedMethod, NamedClass, NamedUnit, ClassUnit, GlobalUnit, PoolVariableUnit, InitializerUnit, PoolInitializerUnit, ProgramUnit, MethodUnit, ClassMethodUnit}
 use Rattle.st_code.specs.Resolved.{SharedName, GlobalName, PoolName, ClassName, ClassInstanceName, ClassNames, Names, class_names_at, class_in, place_in, number_or_last, Made, Context, Counts, inside, body_made, statements_made}
-use Rattle.st_rules.specs.BuiltIns.{undefined_object_class, built_in_class_rows}
-use Rattle.st_rules.specs.Literals.{trouble_literals}
+use Rattle.st_code.specs.BuiltIns.{undefined_object_class, built_in_class_rows}
+use Rattle.st_code.specs.Literals.{trouble_literals}
 
 -- ---- what the units declare
 

@@ -1,0 +1,6 @@
+pub mod Actions
+pub mod Kinds
+pub mod ObjectRows
+pub mod TextRows
+pub mod SequenceRows
+pub mod Loops

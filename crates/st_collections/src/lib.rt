@@ -1,0 +1,2 @@
+// What built-in messages of strings and collections do at once, and what loops visit. What each message does stands in specs/.
+#![tactic(auto)]
