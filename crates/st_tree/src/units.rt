@@ -186,7 +186,7 @@ pub struct Definition {
 
 impl Unit {
     /// How many elements it takes: one, or two with a text, and one for each annotation.
-    fn elements(&self) -> usize
+    pub fn elements(&self) -> usize
         requires { elements_of self.now < 2 ^ 64 }
         ensures { result ≡ elements_of self.now }
     {
@@ -205,6 +205,18 @@ impl Definition {
         let mut number = 1;
         for before in &self.units.as_slice()[..unit] {
             number += before.elements() as u32;
+        }
+        number
+    }
+
+    /// How many elements the file has.
+    pub fn elements(&self) -> u32
+        requires few { elements_in self.now.units < 2 ^ 32 - 1 }
+        ensures { result ≡ elements_in self.now.units }
+    {
+        let mut number = 0;
+        for unit in self.units.as_slice() {
+            number += unit.elements() as u32;
         }
         number
     }
