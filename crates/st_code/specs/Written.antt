@@ -1,5 +1,5 @@
 -- The program that the units of a file write: their trees without the places of the text. Comments, versions, annotations and pools without variables are no part of it. Source: ANSI 3.4 and 4.1.
-use Rattle.std.specs.Prelude.{ℕ, Bool, true, false, List, [], ◌∷◌, map, Option, Some, None}
+use Rattle.std.specs.Prelude.{Bool, true, false, List, [], ◌∷◌, map, Option, Some, None}
 use Rattle.st_tree.specs.declared.tree.Name.{Name}
 use Rattle.st_tree.specs.declared.tree.Literal.{Literal}
 use Rattle.st_tree.specs.declared.tree.Literal.TheOpen.{Literal-F}
