@@ -1,5 +1,5 @@
 -- The built-in classes by number, and the table of built-in messages (ANSI 5): class, side, selector, and what it does.
-use Rattle.std.specs.Prelude.{ℕ, Bool, true, false, ◌&&◌, List, [], ◌∷◌, map, Option, Some, None, nat_eq, codes}
+use Rattle.std.specs.Prelude.{ℕ, suc, Bool, true, false, ◌&&◌, List, [], ◌∷◌, ◌++◌, map, get_or, Option, Some, None, nat_eq, codes}
 use Prim.Native.String.{String}
 use Rattle.st_code.specs.Texts.{Text, same_text}
 use Rattle.st_code.specs.Program.{Side, OfInstance, OfClass, same_side, ClassRow, NoIndexes}
@@ -86,14 +86,14 @@ exception_class = 23
 abbrev pub error_class : ℕ
 error_class = 24
 
-abbrev pub notification_class : ℕ
-notification_class = 25
-
 abbrev pub zero_divide_class : ℕ
-zero_divide_class = 26
+zero_divide_class = 25
 
 abbrev pub message_not_understood_class : ℕ
-message_not_understood_class = 27
+message_not_understood_class = 26
+
+abbrev pub notification_class : ℕ
+notification_class = 27
 
 abbrev pub warning_class : ℕ
 warning_class = 28
@@ -132,9 +132,9 @@ built_in_classes =
     built "TranscriptWriter" (Some object_class) 0 ∷
     built "Exception" (Some object_class) 1 ∷
     built "Error" (Some exception_class) 1 ∷
-    built "Notification" (Some exception_class) 1 ∷
     built "ZeroDivide" (Some error_class) 2 ∷
     built "MessageNotUnderstood" (Some error_class) 3 ∷
+    built "Notification" (Some exception_class) 1 ∷
     built "Warning" (Some notification_class) 1 ∷
     built "ExceptionSet" (Some object_class) 0 ∷ []
 
@@ -183,8 +183,6 @@ object_rows =
     row "perform:with:" (Objects ObjectMessage.Perform) ∷
     row "perform:with:with:" (Objects ObjectMessage.Perform) ∷
     row "perform:withArguments:" (Objects ObjectMessage.PerformWithArguments) ∷
-    row "->" (Objects ObjectMessage.Arrow) ∷
-    row "~=" (Loops LoopMessage.NotEqual) ∷
     []
 
 -- Class
@@ -241,17 +239,18 @@ integer_rows =
     row "bitOr:" (Numbers NumberMessage.BitOr) ∷
     row "bitXor:" (Numbers NumberMessage.BitXor) ∷
     row "bitShift:" (Numbers NumberMessage.BitShift) ∷
+    row "printString:" (Numbers NumberMessage.PrintRadix) ∷
+    row "asString" (Numbers NumberMessage.AsString) ∷
     row "numerator" (Numbers NumberMessage.Numerator) ∷
     row "denominator" (Numbers NumberMessage.Denominator) ∷
     row "truncated" (Numbers NumberMessage.Truncated) ∷
     row "reciprocal" (Numbers NumberMessage.Reciprocal) ∷
-    row "printString:" (Numbers NumberMessage.PrintRadix) ∷
-    row "asString" (Numbers NumberMessage.AsString) ∷
-    row "to:" (Numbers NumberMessage.To) ∷
-    row "to:by:" (Numbers NumberMessage.ToBy) ∷
-    row "timesRepeat:" (Loops LoopMessage.TimesRepeat) ∷
-    row "to:do:" (Loops LoopMessage.ToDo) ∷
-    row "to:by:do:" (Loops LoopMessage.ToByDo) ∷
+    []
+
+-- Fraction class
+unfoldable fraction_class_rows : List RowAt
+fraction_class_rows =
+    row "numerator:denominator:" (Numbers NumberMessage.FromNumerator) ∷
     []
 
 -- Fraction
@@ -277,12 +276,6 @@ fraction_rows =
     row "truncated" (Numbers NumberMessage.Truncated) ∷
     row "reciprocal" (Numbers NumberMessage.Reciprocal) ∷
     row "asString" (Numbers NumberMessage.AsString) ∷
-    []
-
--- Fraction class
-unfoldable fraction_class_rows : List RowAt
-fraction_class_rows =
-    row "numerator:denominator:" (Numbers NumberMessage.FromNumerator) ∷
     []
 
 -- Character class
@@ -337,7 +330,6 @@ string_rows =
     row "asLowercase" (Strings StringMessage.AsLowercase) ∷
     row "asString" (Strings StringMessage.AsString) ∷
     row "sameAs:" (Strings StringMessage.SameAs) ∷
-    row "at:put:" (Sequences SequenceMessage.AtPut) ∷
     []
 
 -- String class
@@ -367,14 +359,11 @@ sequence_rows =
     row "reverse" (Sequences SequenceMessage.Reverse) ∷
     row "asArray" (Sequences SequenceMessage.AsArray) ∷
     row "asOrderedCollection" (Sequences SequenceMessage.AsOrderedCollection) ∷
-    row "reverseDo:" (Loops LoopMessage.ReverseDo) ∷
-    row "keysAndValuesDo:" (Loops LoopMessage.KeysAndValuesDo) ∷
-    row "indexOf:" (Loops LoopMessage.IndexOf) ∷
     []
 
--- Array, ByteArray, OrderedCollection
-unfoldable array_byte_rows : List RowAt
-array_byte_rows =
+-- String, Array, ByteArray, OrderedCollection
+unfoldable at_put_rows : List RowAt
+at_put_rows =
     row "at:put:" (Sequences SequenceMessage.AtPut) ∷
     []
 
@@ -415,13 +404,19 @@ ordered_rows =
     row "removeAtIndex:" (Collections CollectionMessage.RemoveAtIndex) ∷
     []
 
--- Set, Dictionary class
+-- Set class
 unfoldable set_class_rows : List RowAt
 set_class_rows =
     row "new" (Collections CollectionMessage.NewEmpty) ∷
     []
 
--- Set, Dictionary
+-- Dictionary class
+unfoldable dictionary_class_rows : List RowAt
+dictionary_class_rows =
+    row "new" (Collections CollectionMessage.NewEmpty) ∷
+    []
+
+-- Set
 unfoldable set_size_rows : List RowAt
 set_size_rows =
     row "size" (Sequences SequenceMessage.Size) ∷
@@ -429,56 +424,14 @@ set_size_rows =
     row "notEmpty" (Sequences SequenceMessage.NotEmpty) ∷
     []
 
--- Set
-unfoldable set_rows : List RowAt
-set_rows =
-    row "add:" (Loops LoopMessage.AddToSet) ∷
-    []
-
--- Set, OrderedCollection
-unfoldable remove_rows : List RowAt
-remove_rows =
-    row "remove:" (Loops LoopMessage.Remove) ∷
-    row "remove:ifAbsent:" (Loops LoopMessage.RemoveIfAbsent) ∷
-    []
-
 -- Dictionary
-unfoldable dictionary_rows : List RowAt
-dictionary_rows =
+unfoldable dictionary_size_rows : List RowAt
+dictionary_size_rows =
+    row "size" (Sequences SequenceMessage.Size) ∷
+    row "isEmpty" (Sequences SequenceMessage.IsEmpty) ∷
+    row "notEmpty" (Sequences SequenceMessage.NotEmpty) ∷
     row "keys" (Collections CollectionMessage.Keys) ∷
     row "values" (Collections CollectionMessage.Values) ∷
-    row "keysAndValuesDo:" (Loops LoopMessage.KeysAndValuesDo) ∷
-    row "keysDo:" (Loops LoopMessage.KeysDo) ∷
-    row "at:" (Loops LoopMessage.At) ∷
-    row "at:ifAbsent:" (Loops LoopMessage.AtIfAbsent) ∷
-    row "at:put:" (Loops LoopMessage.AtPut) ∷
-    row "at:ifAbsentPut:" (Loops LoopMessage.AtIfAbsentPut) ∷
-    row "includesKey:" (Loops LoopMessage.IncludesKey) ∷
-    row "removeKey:" (Loops LoopMessage.RemoveKey) ∷
-    row "removeKey:ifAbsent:" (Loops LoopMessage.RemoveKeyIfAbsent) ∷
-    []
-
--- String, Symbol, Array, ByteArray, OrderedCollection, Interval, Set, Dictionary
-unfoldable element_rows : List RowAt
-element_rows =
-    row "do:" (Loops LoopMessage.Do) ∷
-    row "do:separatedBy:" (Loops LoopMessage.DoSeparatedBy) ∷
-    row "inject:into:" (Loops LoopMessage.InjectInto) ∷
-    row "detect:" (Loops LoopMessage.Detect) ∷
-    row "detect:ifNone:" (Loops LoopMessage.DetectIfNone) ∷
-    row "anySatisfy:" (Loops LoopMessage.AnySatisfy) ∷
-    row "allSatisfy:" (Loops LoopMessage.AllSatisfy) ∷
-    row "collect:" (Loops LoopMessage.Collect) ∷
-    row "select:" (Loops LoopMessage.Select) ∷
-    row "reject:" (Loops LoopMessage.Reject) ∷
-    row "includes:" (Loops LoopMessage.Includes) ∷
-    row "occurrencesOf:" (Loops LoopMessage.OccurrencesOf) ∷
-    []
-
--- Array, OrderedCollection
-unfoldable equal_rows : List RowAt
-equal_rows =
-    row "=" (Loops LoopMessage.EqualElements) ∷
     []
 
 -- Association class
@@ -494,6 +447,19 @@ association_rows =
     row "value" (Slots 1) ∷
     []
 
+-- Object
+unfoldable arrow_rows : List RowAt
+arrow_rows =
+    row "->" (Objects ObjectMessage.Arrow) ∷
+    []
+
+-- Integer
+unfoldable interval_making_rows : List RowAt
+interval_making_rows =
+    row "to:" (Numbers NumberMessage.To) ∷
+    row "to:by:" (Numbers NumberMessage.ToBy) ∷
+    []
+
 -- Block
 unfoldable block_rows : List RowAt
 block_rows =
@@ -507,10 +473,6 @@ block_rows =
     row "on:do:" (Blocks BlockMessage.OnDo) ∷
     row "ensure:" (Blocks BlockMessage.Ensure) ∷
     row "ifCurtailed:" (Blocks BlockMessage.IfCurtailed) ∷
-    row "whileTrue:" (Loops LoopMessage.WhileTrue) ∷
-    row "whileFalse:" (Loops LoopMessage.WhileFalse) ∷
-    row "whileTrue" (Loops LoopMessage.WhileTrue) ∷
-    row "whileFalse" (Loops LoopMessage.WhileFalse) ∷
     []
 
 -- Exception class
@@ -546,16 +508,21 @@ exception_rows =
     []
 
 -- Notification
-unfoldable notification_rows : List RowAt
-notification_rows =
-    row "isResumable" (Exceptions (ExceptionMessage.IsResumable true)) ∷
+unfoldable notification_action_rows : List RowAt
+notification_action_rows =
     row "defaultAction" (Exceptions ExceptionMessage.AnswersNil) ∷
     []
 
 -- Warning
-unfoldable warning_rows : List RowAt
-warning_rows =
+unfoldable warning_action_rows : List RowAt
+warning_action_rows =
     row "defaultAction" (Exceptions ExceptionMessage.Warns) ∷
+    []
+
+-- Notification
+unfoldable notification_resumable_rows : List RowAt
+notification_resumable_rows =
+    row "isResumable" (Exceptions (ExceptionMessage.IsResumable true)) ∷
     []
 
 -- ZeroDivide
@@ -587,6 +554,129 @@ exception_set_rows =
     row "handles:" (Exceptions ExceptionMessage.Handles) ∷
     []
 
+-- Block
+unfoldable while_rows : List RowAt
+while_rows =
+    row "whileTrue:" (Loops LoopMessage.WhileTrue) ∷
+    row "whileFalse:" (Loops LoopMessage.WhileFalse) ∷
+    row "whileTrue" (Loops LoopMessage.WhileTrue) ∷
+    row "whileFalse" (Loops LoopMessage.WhileFalse) ∷
+    []
+
+-- Integer
+unfoldable count_rows : List RowAt
+count_rows =
+    row "timesRepeat:" (Loops LoopMessage.TimesRepeat) ∷
+    row "to:do:" (Loops LoopMessage.ToDo) ∷
+    row "to:by:do:" (Loops LoopMessage.ToByDo) ∷
+    []
+
+-- String, Symbol, Array, ByteArray, OrderedCollection, Set, Dictionary, Interval
+unfoldable do_rows : List RowAt
+do_rows =
+    row "do:" (Loops LoopMessage.Do) ∷
+    row "do:separatedBy:" (Loops LoopMessage.DoSeparatedBy) ∷
+    []
+
+-- String, Symbol, Array, ByteArray, OrderedCollection, Interval
+unfoldable reverse_do_rows : List RowAt
+reverse_do_rows =
+    row "reverseDo:" (Loops LoopMessage.ReverseDo) ∷
+    []
+
+-- String, Symbol, Array, ByteArray, OrderedCollection, Interval
+unfoldable keys_do_rows : List RowAt
+keys_do_rows =
+    row "keysAndValuesDo:" (Loops LoopMessage.KeysAndValuesDo) ∷
+    []
+
+-- Dictionary
+unfoldable dictionary_keys_do_rows : List RowAt
+dictionary_keys_do_rows =
+    row "keysAndValuesDo:" (Loops LoopMessage.KeysAndValuesDo) ∷
+    row "keysDo:" (Loops LoopMessage.KeysDo) ∷
+    []
+
+-- String, Symbol, Array, ByteArray, OrderedCollection, Set, Dictionary, Interval
+unfoldable inject_rows : List RowAt
+inject_rows =
+    row "inject:into:" (Loops LoopMessage.InjectInto) ∷
+    []
+
+-- String, Symbol, Array, ByteArray, OrderedCollection, Set, Dictionary, Interval
+unfoldable detect_rows : List RowAt
+detect_rows =
+    row "detect:" (Loops LoopMessage.Detect) ∷
+    row "detect:ifNone:" (Loops LoopMessage.DetectIfNone) ∷
+    []
+
+-- String, Symbol, Array, ByteArray, OrderedCollection, Set, Dictionary, Interval
+unfoldable satisfy_rows : List RowAt
+satisfy_rows =
+    row "anySatisfy:" (Loops LoopMessage.AnySatisfy) ∷
+    row "allSatisfy:" (Loops LoopMessage.AllSatisfy) ∷
+    []
+
+-- String, Symbol, Array, ByteArray, OrderedCollection, Set, Dictionary, Interval
+unfoldable collect_rows : List RowAt
+collect_rows =
+    row "collect:" (Loops LoopMessage.Collect) ∷
+    row "select:" (Loops LoopMessage.Select) ∷
+    row "reject:" (Loops LoopMessage.Reject) ∷
+    []
+
+-- String, Symbol, Array, ByteArray, OrderedCollection, Set, Dictionary, Interval
+unfoldable includes_rows : List RowAt
+includes_rows =
+    row "includes:" (Loops LoopMessage.Includes) ∷
+    row "occurrencesOf:" (Loops LoopMessage.OccurrencesOf) ∷
+    []
+
+-- String, Symbol, Array, ByteArray, OrderedCollection, Interval
+unfoldable index_rows : List RowAt
+index_rows =
+    row "indexOf:" (Loops LoopMessage.IndexOf) ∷
+    []
+
+-- Set
+unfoldable set_rows : List RowAt
+set_rows =
+    row "add:" (Loops LoopMessage.AddToSet) ∷
+    row "remove:" (Loops LoopMessage.Remove) ∷
+    row "remove:ifAbsent:" (Loops LoopMessage.RemoveIfAbsent) ∷
+    []
+
+-- OrderedCollection
+unfoldable remove_rows : List RowAt
+remove_rows =
+    row "remove:" (Loops LoopMessage.Remove) ∷
+    row "remove:ifAbsent:" (Loops LoopMessage.RemoveIfAbsent) ∷
+    []
+
+-- Dictionary
+unfoldable dictionary_rows : List RowAt
+dictionary_rows =
+    row "at:" (Loops LoopMessage.At) ∷
+    row "at:ifAbsent:" (Loops LoopMessage.AtIfAbsent) ∷
+    row "at:put:" (Loops LoopMessage.AtPut) ∷
+    row "at:ifAbsentPut:" (Loops LoopMessage.AtIfAbsentPut) ∷
+    row "includesKey:" (Loops LoopMessage.IncludesKey) ∷
+    row "removeKey:" (Loops LoopMessage.RemoveKey) ∷
+    row "removeKey:ifAbsent:" (Loops LoopMessage.RemoveKeyIfAbsent) ∷
+    []
+
+-- Array, OrderedCollection
+unfoldable equal_rows : List RowAt
+equal_rows =
+    row "=" (Loops LoopMessage.EqualElements) ∷
+    []
+
+-- Object
+unfoldable not_equal_rows : List RowAt
+not_equal_rows =
+    row "~=" (Loops LoopMessage.NotEqual) ∷
+    []
+
 -- the rows of a class on a side
 pub record Section : Type 0 where
   pub class : ℕ
@@ -596,79 +686,91 @@ pub record Section : Type 0 where
 abbrev section : ℕ → Side → List RowAt → Section
 section class side rows = record { class = class; side = side; rows = rows }
 
--- the whole table
+-- each of these classes has the rows, for its instances
+abbrev sections : List ℕ → List RowAt → List Section
+sections [] rows = []
+sections (class ∷ classes) rows = section class OfInstance rows ∷ sections classes rows
+
+-- the classes whose elements stand at places
+abbrev sequence_classes : List ℕ
+sequence_classes = string_class ∷ symbol_class ∷ array_class ∷ byte_array_class ∷ ordered_collection_class ∷ interval_class ∷ []
+
+-- the classes whose elements are visited
+abbrev element_classes : List ℕ
+element_classes = string_class ∷ symbol_class ∷ array_class ∷ byte_array_class ∷ ordered_collection_class ∷ set_class ∷ dictionary_class ∷ interval_class ∷ []
+
+-- the whole table. A message's number is its place in it
 unfoldable pub built_in_messages : List Section
-unfolding object_rows class_rows boolean_rows integer_rows fraction_rows fraction_class_rows character_class_rows character_rows transcript_rows string_rows string_class_rows symbol_rows sequence_rows array_byte_rows array_class_rows byte_array_class_rows ordered_class_rows ordered_rows set_class_rows set_size_rows set_rows remove_rows dictionary_rows element_rows equal_rows association_class_rows association_rows block_rows exception_class_rows exception_rows notification_rows warning_rows zero_divide_rows not_understood_rows message_rows exception_set_rows
+unfolding object_rows class_rows boolean_rows integer_rows fraction_class_rows fraction_rows character_class_rows character_rows transcript_rows string_rows string_class_rows symbol_rows sequence_rows at_put_rows array_class_rows byte_array_class_rows ordered_class_rows ordered_rows set_class_rows dictionary_class_rows set_size_rows dictionary_size_rows association_class_rows association_rows arrow_rows interval_making_rows block_rows exception_class_rows exception_rows notification_action_rows warning_action_rows notification_resumable_rows zero_divide_rows not_understood_rows message_rows exception_set_rows while_rows count_rows do_rows reverse_do_rows keys_do_rows dictionary_keys_do_rows inject_rows detect_rows satisfy_rows collect_rows includes_rows index_rows set_rows remove_rows dictionary_rows equal_rows not_equal_rows
 built_in_messages =
     section object_class OfInstance object_rows ∷
     section class_class OfInstance class_rows ∷
     section boolean_class OfInstance boolean_rows ∷
     section integer_class OfInstance integer_rows ∷
-    section fraction_class OfInstance fraction_rows ∷
     section fraction_class OfClass fraction_class_rows ∷
+    section fraction_class OfInstance fraction_rows ∷
     section character_class OfClass character_class_rows ∷
     section character_class OfInstance character_rows ∷
     section transcript_writer_class OfInstance transcript_rows ∷
     section string_class OfInstance string_rows ∷
     section string_class OfClass string_class_rows ∷
     section symbol_class OfInstance symbol_rows ∷
-    section string_class OfInstance sequence_rows ∷
-    section symbol_class OfInstance sequence_rows ∷
-    section array_class OfInstance sequence_rows ∷
-    section byte_array_class OfInstance sequence_rows ∷
-    section ordered_collection_class OfInstance sequence_rows ∷
-    section interval_class OfInstance sequence_rows ∷
-    section array_class OfInstance array_byte_rows ∷
-    section byte_array_class OfInstance array_byte_rows ∷
-    section ordered_collection_class OfInstance array_byte_rows ∷
+    sections sequence_classes sequence_rows ++
+    sections (string_class ∷ array_class ∷ byte_array_class ∷ ordered_collection_class ∷ []) at_put_rows ++
     section array_class OfClass array_class_rows ∷
     section byte_array_class OfClass byte_array_class_rows ∷
     section ordered_collection_class OfClass ordered_class_rows ∷
     section ordered_collection_class OfInstance ordered_rows ∷
     section set_class OfClass set_class_rows ∷
-    section dictionary_class OfClass set_class_rows ∷
+    section dictionary_class OfClass dictionary_class_rows ∷
     section set_class OfInstance set_size_rows ∷
-    section dictionary_class OfInstance set_size_rows ∷
-    section set_class OfInstance set_rows ∷
-    section set_class OfInstance remove_rows ∷
-    section ordered_collection_class OfInstance remove_rows ∷
-    section dictionary_class OfInstance dictionary_rows ∷
-    section string_class OfInstance element_rows ∷
-    section symbol_class OfInstance element_rows ∷
-    section array_class OfInstance element_rows ∷
-    section byte_array_class OfInstance element_rows ∷
-    section ordered_collection_class OfInstance element_rows ∷
-    section interval_class OfInstance element_rows ∷
-    section set_class OfInstance element_rows ∷
-    section dictionary_class OfInstance element_rows ∷
-    section array_class OfInstance equal_rows ∷
-    section ordered_collection_class OfInstance equal_rows ∷
+    section dictionary_class OfInstance dictionary_size_rows ∷
     section association_class OfClass association_class_rows ∷
     section association_class OfInstance association_rows ∷
+    section object_class OfInstance arrow_rows ∷
+    section integer_class OfInstance interval_making_rows ∷
     section block_class OfInstance block_rows ∷
     section exception_class OfClass exception_class_rows ∷
     section exception_class OfInstance exception_rows ∷
-    section notification_class OfInstance notification_rows ∷
-    section warning_class OfInstance warning_rows ∷
+    section notification_class OfInstance notification_action_rows ∷
+    section warning_class OfInstance warning_action_rows ∷
+    section notification_class OfInstance notification_resumable_rows ∷
     section zero_divide_class OfInstance zero_divide_rows ∷
     section message_not_understood_class OfInstance not_understood_rows ∷
     section message_class OfInstance message_rows ∷
     section exception_set_class OfInstance exception_set_rows ∷
+    section block_class OfInstance while_rows ∷
+    section integer_class OfInstance count_rows ∷
+    sections element_classes do_rows ++
+    sections sequence_classes reverse_do_rows ++
+    sections sequence_classes keys_do_rows ++
+    section dictionary_class OfInstance dictionary_keys_do_rows ∷
+    sections element_classes inject_rows ++
+    sections element_classes detect_rows ++
+    sections element_classes satisfy_rows ++
+    sections element_classes collect_rows ++
+    sections element_classes includes_rows ++
+    sections sequence_classes index_rows ++
+    section set_class OfInstance set_rows ∷
+    section ordered_collection_class OfInstance remove_rows ∷
+    section dictionary_class OfInstance dictionary_rows ∷
+    sections (array_class ∷ ordered_collection_class ∷ []) equal_rows ++
+    section object_class OfInstance not_equal_rows ∷
     []
 
 -- the row of a selector, unless there is none
-unfoldable row_in : List RowAt → Text → Option Row
+unfoldable pub row_in : List RowAt → Text → Option Row
 row_in [] selector = None
 row_in (r ∷ rows) selector = elim (same_text r.selector selector) [ true ↦ Some r.row | false ↦ row_in rows selector ]
 
-abbrev is_section : ℕ → Side → Section → Bool
+abbrev pub is_section : ℕ → Side → Section → Bool
 is_section class side s = nat_eq s.class class && same_side s.side side
 
-abbrev or_else : Option Row → Option Row → Option Row
+abbrev pub or_else : Option Row → Option Row → Option Row
 or_else (Some r) o = Some r
 or_else None o = o
 
-unfoldable row_in_sections : List Section → ℕ → Side → Text → Option Row
+unfoldable pub row_in_sections : List Section → ℕ → Side → Text → Option Row
 unfolding row_in
 row_in_sections [] class side selector = None
 row_in_sections (s ∷ sections) class side selector =
@@ -678,3 +780,43 @@ row_in_sections (s ∷ sections) class side selector =
 unfoldable pub row_at : ℕ → Side → Text → Option Row
 unfolding built_in_messages row_in_sections
 row_at class side selector = row_in_sections built_in_messages class side selector
+
+-- ---- messages by number
+
+-- a message: the class and side that have it, its selector, and what it does
+pub record BuiltInMessage : Type 0 where
+  pub class : ℕ
+  pub side : Side
+  pub selector : Text
+  pub row : Row
+
+abbrev pub messages_of : ℕ → Side → List RowAt → List BuiltInMessage
+messages_of class side [] = []
+messages_of class side (r ∷ rows) = record { class = class; side = side; selector = r.selector; row = r.row } ∷ messages_of class side rows
+
+abbrev pub messages_in : List Section → List BuiltInMessage
+messages_in [] = []
+messages_in (s ∷ sections) = messages_of s.class s.side s.rows ++ messages_in sections
+
+-- the messages in the order of their numbers
+unfoldable pub numbered_messages : List BuiltInMessage
+unfolding built_in_messages
+numbered_messages = messages_in built_in_messages
+
+abbrev pub is_message : ℕ → Side → Text → BuiltInMessage → Bool
+is_message class side selector m = (nat_eq m.class class && same_side m.side side) && same_text m.selector selector
+
+abbrev pub place_of_message : ℕ → List BuiltInMessage → ℕ → Side → Text → Option ℕ
+place_of_message n [] class side selector = None
+place_of_message n (m ∷ messages) class side selector = elim (is_message class side selector m) [ true ↦ Some n | false ↦ place_of_message (suc n) messages class side selector ]
+
+-- the number of the message that this class itself has on this side
+unfoldable pub message_number : ℕ → Side → Text → Option ℕ
+message_number class side selector = place_of_message 0 numbered_messages class side selector
+
+abbrev pub no_message : BuiltInMessage
+no_message = record { class = 0; side = OfInstance; selector = []; row = Objects ObjectMessage.Same }
+
+-- what the message with this number does
+unfoldable pub numbered_row : ℕ → Row
+numbered_row n = (get_or numbered_messages n no_message).row

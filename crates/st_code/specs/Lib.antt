@@ -3,6 +3,7 @@ pub mod Program
 pub mod Code
 pub mod Compiled
 pub mod Named
+pub mod Written
 pub mod Resolved
 pub mod Messages
 pub mod BuiltIns

@@ -1,16 +1,16 @@
 -- A whole run: the machine goes through the initializers as the rules do, and ends as they end.
-use Rattle.std.proofs.Common.{◌≡◌, ℕ, zero, suc, ◌+◌, List, [], ◌∷◌, Option, Some, None, refl, sym, ap, ◌∙◌, subst, arith}
+use Rattle.std.proofs.Common.{◌≡◌, ℕ, zero, suc, ◌+◌, List, [], ◌∷◌, Option, refl, sym, ap, ◌∙◌, subst, arith}
 use Rattle.object_heap.specs.declared.value.Value.{Value}
 use Rattle.st_code.specs.Program.{Program, Initializer}
 use Rattle.st_rules.specs.State.{State, Outcome, Answer, Go, Stop}
 use Rattle.st_rules.specs.Ends.{Result, Yields, NoIndex, then_value, initializer_opening}
-use Rattle.st_rules.specs.Rules.{Next, opened, at_index}
-use Rattle.st_rules.specs.Runs.{Ending, Runs, run_from, first_state, end_of, kept_value}
-use Rattle.st_rules.specs.Machine.{Mach, Run, Settle, Begin, Over, Stuck}
+use Rattle.st_rules.specs.Rules.{Next, at_index}
+use Rattle.st_rules.specs.Runs.{run_from, first_state, end_of, kept_value}
+use Rattle.st_rules.specs.Machine.{Run, Settle, Begin, Over, Stuck}
 use Rattle.st_rules.specs.Scoped.{ScopedBody, scoped}
 use Rattle.st_rules.specs.Turns.{Top, On, Ended, open_next, top_step, top_iter, opened_run}
 use Rattle.st_rules.specs.Followed.{FollowsTheRules}
-use Rattle.st_rules.proofs.Meets.{Acts, Machine, next_step, steps, steps_add, steps_swap, Meets, Follows}
+use Rattle.st_rules.proofs.Meets.{Machine, next_step, steps, steps_add, steps_swap, Meets, Follows}
 use Rattle.st_rules.proofs.RuleLaws.{Sim, opened_law, simulated}
 
 module _ (p : Program) where
@@ -44,13 +44,13 @@ module _ (p : Program) where
             ∙ stays_over x.right o st;
       }
 
-  abbrev Whole : Type 0
+  abbrev pub Whole : Type 0
   Whole = Top ScopedBody
 
-  abbrev whole_steps : ℕ → Whole → Whole
+  abbrev pub whole_steps : ℕ → Whole → Whole
   whole_steps n t = top_iter (scoped p) p n t
 
-  whole_add : (j k : ℕ) (t : Whole) → whole_steps (j + k) t ≡ whole_steps k (whole_steps j t)
+  pub whole_add : (j k : ℕ) (t : Whole) → whole_steps (j + k) t ≡ whole_steps k (whole_steps j t)
   whole_add zero k t = let e : 0 + k ≡ k = omega arith in ap (λ n. whole_steps n t) e
   whole_add (suc j) k t = let e : suc j + k ≡ suc (j + k) = omega arith in ap (λ n. whole_steps n t) e ∙ whole_add j k (top_step (scoped p) p t)
 

@@ -456,7 +456,7 @@ notification =
       methods = [];
       bodies =
           record { kind = InInitializer; class = Class 1; parameters = 0; captured = []; outer = None; statements = Plain (Send 10 (Constant Transcript) (more_trees (Send 8 (Send 0 (Block 1) no_trees) no_trees) no_trees)) ∷ [] } ∷
-          record { kind = InBlock; class = Class 1; parameters = 0; captured = []; outer = (Some 0); statements = Plain (Send 9 (Constant (Class 25)) no_trees) ∷ Plain (Constant (Integer (pos 3))) ∷ [] } ∷ [];
+          record { kind = InBlock; class = Class 1; parameters = 0; captured = []; outer = (Some 0); statements = Plain (Send 9 (Constant (Class 27)) no_trees) ∷ Plain (Constant (Integer (pos 3))) ∷ [] } ∷ [];
       initializers = record { code = 0; self = Nil; target = None } ∷ [];
       literals = trouble_literals;
       trouble_place = 0;

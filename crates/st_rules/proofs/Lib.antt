@@ -1,7 +1,10 @@
 pub mod Larger
+pub mod Settles
+pub mod Existing
 pub mod Meets
 pub mod RuleLaws
 pub mod FollowedRun
+pub mod SomeRun
 pub mod Computing
 pub mod HandlerRuns
 pub mod UnwindingRuns

@@ -6,8 +6,8 @@ use Rattle.st_code.specs.Program.{Program, Kind, InMethod, InBlock, InInitialize
 use Rattle.st_code.specs.Code.{Instr, end_code, empty_code}
 use Rattle.st_rules.specs.State.{State, Limit, Outcome, Answer, Go, Stop, Home, Turn, Frame, Env}
 use Rattle.st_rules.specs.Ends.{Result, Yields, NoIndex, charged, handle, then_value, ended, body_value, body_end, left_end, turn_end, outer_end, action_end, onto}
-use Rattle.st_rules.specs.Machine.{Act, BodyAct, Leaving, ActionOff, HandlerRun, OuterAct, Mach, Run, Settle, Begin, Over, marks, step, iter}
-use Rattle.st_rules.specs.Scoped.{ScopedBody, scoped_body, scoped_number, scoped, Taken, Takes, taken}
+use Rattle.st_rules.specs.Machine.{Act, BodyAct, Leaving, ActionOff, HandlerRun, OuterAct, Mach, Run, Settle, marks, step, iter}
+use Rattle.st_rules.specs.Scoped.{ScopedBody, scoped_body, scoped_number, scoped, Takes, taken}
 
 abbrev pub Acts : Type 0
 Acts = List (Act ScopedBody)

@@ -130,7 +130,7 @@ not_understood_resumed =
       classes = built_in_class_rows;
       methods = [];
       bodies =
-          record { kind = InInitializer; class = Class 1; parameters = 0; captured = []; outer = None; statements = Plain (Send 13 (Constant Transcript) (more_trees (Send 8 (Send 12 (Block 1) (more_trees (Constant (Class 27)) (more_trees (Block 2) no_trees))) no_trees) no_trees)) ∷ [] } ∷
+          record { kind = InInitializer; class = Class 1; parameters = 0; captured = []; outer = None; statements = Plain (Send 13 (Constant Transcript) (more_trees (Send 8 (Send 12 (Block 1) (more_trees (Constant (Class 26)) (more_trees (Block 2) no_trees))) no_trees) no_trees)) ∷ [] } ∷
           record { kind = InBlock; class = Class 1; parameters = 0; captured = []; outer = (Some 0); statements = Plain (Send 10 (Send 9 (Constant (Integer (pos 3))) no_trees) (more_trees (Constant (Integer (pos 1))) no_trees)) ∷ [] } ∷
           record { kind = InBlock; class = Class 1; parameters = 1; captured = false ∷ []; outer = (Some 0); statements = Plain (Send 11 (Variable (Scoped 0 0)) (more_trees (Constant (Integer (pos 41))) no_trees)) ∷ [] } ∷ [];
       initializers = record { code = 0; self = Nil; target = None } ∷ [];
@@ -154,7 +154,7 @@ zero_divide_resumed =
       classes = built_in_class_rows;
       methods = [];
       bodies =
-          record { kind = InInitializer; class = Class 1; parameters = 0; captured = []; outer = None; statements = Plain (Send 13 (Constant Transcript) (more_trees (Send 8 (Send 12 (Block 1) (more_trees (Constant (Class 26)) (more_trees (Block 2) no_trees))) no_trees) no_trees)) ∷ [] } ∷
+          record { kind = InInitializer; class = Class 1; parameters = 0; captured = []; outer = None; statements = Plain (Send 13 (Constant Transcript) (more_trees (Send 8 (Send 12 (Block 1) (more_trees (Constant (Class 25)) (more_trees (Block 2) no_trees))) no_trees) no_trees)) ∷ [] } ∷
           record { kind = InBlock; class = Class 1; parameters = 0; captured = []; outer = (Some 0); statements = Plain (Send 10 (Send 9 (Constant (Integer (pos 7))) (more_trees (Constant (Integer (pos 0))) no_trees)) (more_trees (Constant (Integer (pos 1))) no_trees)) ∷ [] } ∷
           record { kind = InBlock; class = Class 1; parameters = 1; captured = false ∷ []; outer = (Some 0); statements = Plain (Send 11 (Variable (Scoped 0 0)) (more_trees (Constant (Integer (pos 5))) no_trees)) ∷ [] } ∷ [];
       initializers = record { code = 0; self = Nil; target = None } ∷ [];
@@ -288,7 +288,7 @@ fraction_by_zero =
       classes = built_in_class_rows;
       methods = [];
       bodies =
-          record { kind = InInitializer; class = Class 1; parameters = 0; captured = []; outer = None; statements = Plain (Send 12 (Constant Transcript) (more_trees (Send 8 (Send 11 (Block 1) (more_trees (Constant (Class 26)) (more_trees (Block 2) no_trees))) no_trees) no_trees)) ∷ [] } ∷
+          record { kind = InInitializer; class = Class 1; parameters = 0; captured = []; outer = None; statements = Plain (Send 12 (Constant Transcript) (more_trees (Send 8 (Send 11 (Block 1) (more_trees (Constant (Class 25)) (more_trees (Block 2) no_trees))) no_trees) no_trees)) ∷ [] } ∷
           record { kind = InBlock; class = Class 1; parameters = 0; captured = []; outer = (Some 0); statements = Plain (Send 10 (Send 9 (Send 9 (Constant (Integer (pos 1))) (more_trees (Constant (Integer (pos 3))) no_trees)) (more_trees (Constant (Integer (pos 0))) no_trees)) (more_trees (Constant (Integer (pos 1))) no_trees)) ∷ [] } ∷
           record { kind = InBlock; class = Class 1; parameters = 1; captured = false ∷ []; outer = (Some 0); statements = Plain (Constant (Integer (pos 0))) ∷ [] } ∷ [];
       initializers = record { code = 0; self = Nil; target = None } ∷ [];
@@ -613,7 +613,7 @@ charges_of_failed_send =
       classes = built_in_class_rows;
       methods = [];
       bodies =
-          record { kind = InInitializer; class = Class 1; parameters = 0; captured = []; outer = None; statements = Plain (Send 14 (Constant Transcript) (more_trees (Send 8 (Send 13 (Block 1) (more_trees (Constant (Class 27)) (more_trees (Block 2) no_trees))) no_trees) no_trees)) ∷ [] } ∷
+          record { kind = InInitializer; class = Class 1; parameters = 0; captured = []; outer = None; statements = Plain (Send 14 (Constant Transcript) (more_trees (Send 8 (Send 13 (Block 1) (more_trees (Constant (Class 26)) (more_trees (Block 2) no_trees))) no_trees) no_trees)) ∷ [] } ∷
           record { kind = InBlock; class = Class 1; parameters = 0; captured = []; outer = (Some 0); statements = Plain (Send 9 (Constant (Integer (pos 3))) (more_trees (Constant (Integer (pos 4))) no_trees)) ∷ Plain (Constant (Integer (pos 1))) ∷ [] } ∷
           record { kind = InBlock; class = Class 1; parameters = 1; captured = false ∷ []; outer = (Some 0); statements = Plain (Send 12 (Send 11 (Send 10 (Variable (Scoped 0 0)) no_trees) no_trees) no_trees) ∷ [] } ∷ [];
       initializers = record { code = 0; self = Nil; target = None } ∷ [];

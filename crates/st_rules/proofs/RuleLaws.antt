@@ -1,7 +1,7 @@
 -- The scoped machine follows the rules: a law for each rule, from the same of what is used at the smaller index.
 use Rattle.std.proofs.Common.{◌≡◌, ℕ, zero, suc, ◌+◌, List, [], ◌∷◌, ◌++◌, length, Option, Some, None, Bool, true, false, refl, sym, ap, ◌∙◌, subst, arith}
 use Rattle.object_heap.specs.declared.value.Value.{Value}
-use Rattle.object_heap.specs.declared.value.Value.TheVariants.{Nil, True, False, Integer, Character, Symbol, Class, Meta, Transcript, Object}
+use Rattle.object_heap.specs.declared.value.Value.TheVariants.{Nil, Object}
 use Rattle.object_heap.specs.declared.value.Closure.{Closure}
 use Rattle.object_heap.specs.Store.{object_at}
 use Rattle.st_code.specs.Program.{Tree, Constant, Self, Variable, Assign, Block, Send, SuperSend, Cascade, SuperCascade, Trees, no_trees, more_trees, Messages, no_messages, more_messages, Statement, Plain, Return, Kind, InMethod, InBlock, InInitializer, Program, body_at}
@@ -12,11 +12,11 @@ use Rattle.st_code.specs.Lookup.{is_plain, fits, is_exception}
 use Rattle.st_collections.specs.Actions.{Action, Gives, Changes, Makes, Writes, Fails, DividesByZero, PassesIntegers, Begins, Activates, Sends, Misses, Enters, Guards, Ensures, Curtails, Iterates, Raises, RaisesNew, Controls, Terminates, LoopState, Visit, Applies, Compares, Finishes, Lacks, Charges}
 use Rattle.st_collections.specs.Kinds.{is_true}
 use Rattle.st_collections.specs.Loops.{next_visit}
-use Rattle.st_rules.specs.Ends.{Result, Opening, block_opening, method_opening, ended, SignalVerdict, Ends, Signals, signal_end, Verdict, Leaves, Again, protect_end, Purpose, ForPass, ForOuter, Search, turn_for, asks_nested, Wait, ToResume, ToOuter, onto}
-use Rattle.st_rules.specs.Rules.{Use, Apply, Activate, Enter, SendTo, SuperTo, Perform, Raise, RaiseNew, SignalPoint, Resignaled, SearchIn, TurnBy, Ask, Protect, Finish, VisitBy, RunBody, Next, fail, apply_by, handler_by, closure_for, exception_cells, opened, signal_by, raise, raise_new, tried, handles_after, judged, search, turn_by, pass, asked, wait_after, resignal, resignal_as, control_by, control_without, control_in, control, protect_by, finish, ensure_after, curtail_after, visit_after, visit, perform, leave, eval_args, eval_messages, eval, eval_body, rule, at_index}
-use Rattle.st_rules.specs.Machine.{Act, BodyAct, Leaving, ProtectAct, EnsureOn, CurtailOn, ActionOff, SignalAct, HandlerRun, OuterAct, ResumeWait, HandlesWait, LoopAct, Mach, Run, Settle, Begin, Over, marks, open_act, raise_act, raise_new_act, tried_act, judged_act, search_act, turn_act, pass_act, asked_act, resignal_act, resignal_as_act, control_by_act, control_without_act, control_in_act, control_act, visit_act, perform_act, begin, protect_verdict, signal_verdict, finish_act}
-use Rattle.st_rules.specs.Scoped.{ScopedBody, scoped_body, scoped_number, scoped, Takes, taken, sent, super_sent, leaves}
-use Rattle.st_rules.proofs.Meets.{Acts, Machine, body, running, Meets, meets_itself, steps_to, alike, Follows, step_first, charge_law, handle_law, value_law, turn_end_law, outer_end_law, action_end_law, own_home, left_end_law, body_end_law, empty_law, stands_law, taken_lem}
+use Rattle.st_rules.specs.Ends.{Result, Opening, block_opening, method_opening, SignalVerdict, Ends, Signals, signal_end, Verdict, Leaves, Again, protect_end, Search, turn_for, asks_nested, Wait, ToResume, ToOuter, onto}
+use Rattle.st_rules.specs.Rules.{Use, Apply, Activate, Enter, SendTo, SuperTo, Perform, Raise, RaiseNew, SignalPoint, Resignaled, SearchIn, TurnBy, Ask, Protect, Finish, VisitBy, RunBody, Next, apply_by, handler_by, closure_for, exception_cells, opened, signal_by, raise, raise_new, tried, handles_after, judged, search, turn_by, asked, wait_after, resignal, resignal_as, control_by, control_without, control_in, control, protect_by, ensure_after, curtail_after, visit_after, visit, perform, leave, eval_args, eval_messages, eval, eval_body, rule, at_index}
+use Rattle.st_rules.specs.Machine.{Leaving, ProtectAct, EnsureOn, CurtailOn, ActionOff, SignalAct, HandlerRun, OuterAct, ResumeWait, HandlesWait, LoopAct, Settle, Begin, marks, open_act, raise_act, raise_new_act, tried_act, judged_act, search_act, turn_act, asked_act, resignal_act, resignal_as_act, control_by_act, control_without_act, control_in_act, control_act, visit_act, perform_act, protect_verdict, signal_verdict}
+use Rattle.st_rules.specs.Scoped.{scoped_body, scoped_number, scoped, Takes, taken, sent, super_sent, leaves}
+use Rattle.st_rules.proofs.Meets.{Acts, Machine, body, running, meets_itself, steps_to, alike, Follows, step_first, charge_law, handle_law, value_law, turn_end_law, outer_end_law, action_end_law, own_home, left_end_law, body_end_law, empty_law, stands_law, taken_lem}
 
 -- where the machine begins a use
 abbrev pub start : Program → Use → Acts → State → Machine

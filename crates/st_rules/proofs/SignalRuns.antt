@@ -333,8 +333,8 @@ resignal_old_live =
       bodies =
           record { kind = InMethod; class = Class 30; parameters = 0; captured = []; outer = None; statements = Return (Send 9 (Variable (Shared 0)) no_trees) ∷ [] } ∷
           record { kind = InInitializer; class = Class 1; parameters = 0; captured = []; outer = None; statements = Plain (Send 14 (Constant Transcript) (more_trees (Send 12 (Block 2) (more_trees (Constant (Class 24)) (more_trees (Block 5) no_trees))) no_trees)) ∷ [] } ∷
-          record { kind = InBlock; class = Class 1; parameters = 0; captured = []; outer = (Some 1); statements = Plain (Send 12 (Block 3) (more_trees (Constant (Class 26)) (more_trees (Block 4) no_trees))) ∷ [] } ∷
-          record { kind = InBlock; class = Class 1; parameters = 0; captured = []; outer = (Some 2); statements = Plain (Assign (Shared 0) (Send 10 (Constant (Class 26)) no_trees)) ∷ Plain (Send 9 (Variable (Shared 0)) no_trees) ∷ [] } ∷
+          record { kind = InBlock; class = Class 1; parameters = 0; captured = []; outer = (Some 1); statements = Plain (Send 12 (Block 3) (more_trees (Constant (Class 25)) (more_trees (Block 4) no_trees))) ∷ [] } ∷
+          record { kind = InBlock; class = Class 1; parameters = 0; captured = []; outer = (Some 2); statements = Plain (Assign (Shared 0) (Send 10 (Constant (Class 25)) no_trees)) ∷ Plain (Send 9 (Variable (Shared 0)) no_trees) ∷ [] } ∷
           record { kind = InBlock; class = Class 1; parameters = 1; captured = false ∷ []; outer = (Some 2); statements = Plain (Send 11 (Variable (Scoped 0 0)) (more_trees (Send 10 (Constant (Class 30)) no_trees) no_trees)) ∷ [] } ∷
           record { kind = InBlock; class = Class 1; parameters = 1; captured = false ∷ []; outer = (Some 1); statements = Plain (Send 13 (Variable (Scoped 0 0)) no_trees) ∷ [] } ∷ [];
       initializers = record { code = 1; self = Nil; target = None } ∷ [];

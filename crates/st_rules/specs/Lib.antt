@@ -12,4 +12,5 @@ pub mod Machine
 pub mod Scoped
 pub mod Turns
 pub mod Followed
+pub mod SomeRun
 pub mod Flat

@@ -3,6 +3,8 @@
 
 mod follows;
 mod one_run;
+mod some_run;
 
 pub use follows::the_machine_follows_the_rules;
 pub use one_run::a_program_has_at_most_one_run;
+pub use some_run::a_program_has_a_run;
