@@ -1,3 +1,4 @@
 pub mod Places
 pub mod Reading
 pub mod Steps
+pub mod Told
