@@ -37,14 +37,14 @@ kind_found program_initializer = refl
 kind_found method = refl
 kind_found class_method = refl
 
-step_takes : {p q : Progress} {text : List ℕ} → Takes p text q → step_of p text ≡ Goes q
+pub step_takes : {p q : Progress} {text : List ℕ} → Takes p text q → step_of p text ≡ Goes q
 step_takes (version e) = ap (behind_element []) e
 step_takes (whole e) = ap (behind_element _) e
 step_takes (header e) = ap (behind_element _) e
 step_takes (annotation e) = ap (behind_element _) e
 step_takes (text_of_header t u) = ap (behind_text _ _) (tree_found t) ∙ ap (behind_tree _) (kind_found u)
 
-step_spoils : {p : Progress} {text : List ℕ} {byte : ℕ} {why : Reason} → Spoils p text byte why → step_of p text ≡ Spoilt byte why
+pub step_spoils : {p : Progress} {text : List ℕ} {byte : ℕ} {why : Reason} → Spoils p text byte why → step_of p text ≡ Spoilt byte why
 step_spoils (no_version e) = ap (behind_element []) e
 step_spoils (no_element e) = ap (behind_element _) e
 step_spoils (no_text f) = ap (behind_text _ _) (fault_found f)

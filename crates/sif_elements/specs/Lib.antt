@@ -2,3 +2,4 @@ pub mod Places
 pub mod Reading
 pub mod Steps
 pub mod Told
+pub mod Words
