@@ -22,17 +22,6 @@ pub enum Element {
     Faulty(u32, Reason),
 }
 
-// The fault of a text that ends where more tokens are needed.
-fn unfinished(text: &[u8], lexical: Option<LexFault>) -> Element
-    requires { length text.now ≤ 1048576 }
-    ensures { (header : Header) → said result ≡ headers.judged headers.Short header lexical (length text.now) }
-{
-    match lexical {
-        Some(fault) => Element::Faulty(fault.byte, fault.reason),
-        None => Element::Faulty(text.len() as u32, Reason::Syntax),
-    }
-}
-
 // What an element says by its row and the tokens behind the first two, the second of which begins
 // at this byte.
 fn by_row(
@@ -52,7 +41,10 @@ fn by_row(
     };
     match fill(alloc, slots_of(row), text, tokens)? {
         Filling::Stuck(byte) => Ok(Element::Faulty(byte, Reason::Syntax)),
-        Filling::Short => Ok(unfinished(text, lexical)),
+        Filling::Short => match lexical {
+            Some(fault) => Ok(Element::Faulty(fault.byte, fault.reason)),
+            None => Ok(Element::Faulty(text.len() as u32, Reason::Syntax)),
+        },
         Filling::Filled => match lexical {
             Some(fault) => Ok(Element::Faulty(fault.byte, fault.reason)),
             None => {
@@ -77,6 +69,20 @@ fn comment_element(
             let comments = comments_of(alloc, text)?;
             Ok(Element::Says(Header::Whole(UnitKind::Comment(comments))))
         }
+    }
+}
+
+// What an element says that has this token alone: more are needed, or it can't stand.
+fn by_token(text: &[u8], a: Token, lexical: Option<LexFault>) -> Element
+    requires { length text.now ≤ 1048576 }
+    ensures { said result ≡ headers.says text.now (a ∷ []) lexical }
+{
+    if !is_identifier(a.kind) {
+        return Element::Faulty(a.start, Reason::Syntax);
+    }
+    match lexical {
+        Some(fault) => Element::Faulty(fault.byte, fault.reason),
+        None => Element::Faulty(text.len() as u32, Reason::Syntax),
     }
 }
 
@@ -117,13 +123,7 @@ pub fn further_element(
             let element = comment_element(alloc, text, lexical)?;
             Ok(element)
         }
-        [a] => {
-            if is_identifier(a.kind) {
-                Ok(unfinished(text, lexical))
-            } else {
-                Ok(Element::Faulty(a.start, Reason::Syntax))
-            }
-        }
+        [a] => Ok(by_token(text, *a, lexical)),
         [a, b, rest @ ..] => {
             let element = by_tokens(alloc, text, *a, *b, rest, lexical)?;
             Ok(element)

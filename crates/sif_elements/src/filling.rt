@@ -28,16 +28,20 @@ pub fn fill(
 ) -> Result<Filling, OutOfMemory>
     ensures { IfOk result (λ filling. walk_of filling ≡ headers.walk (map place_of slots.now) text.now tokens.now) }
 {
-    match (slots, tokens) {
-        ([], []) => Ok(Filling::Filled),
-        ([], [token, ..]) => Ok(Filling::Stuck(token.start)),
-        ([_, ..], []) => Ok(Filling::Short),
-        ([slot, slots @ ..], [token, tokens @ ..]) => {
-            if !fits(alloc, *slot, token.kind, text_of(text, *token))? {
-                return Ok(Filling::Stuck(token.start));
+    match slots {
+        [] => match tokens {
+            [] => Ok(Filling::Filled),
+            [token, ..] => Ok(Filling::Stuck(token.start)),
+        },
+        [slot, further @ ..] => match tokens {
+            [] => Ok(Filling::Short),
+            [token, behind @ ..] => {
+                if !fits(alloc, *slot, token.kind, text_of(text, *token))? {
+                    return Ok(Filling::Stuck(token.start));
+                }
+                let filling = fill(alloc, further, text, behind)?;
+                Ok(filling)
             }
-            let filling = fill(alloc, slots, text, tokens)?;
-            Ok(filling)
-        }
+        },
     }
 }
