@@ -5,7 +5,7 @@ use Rattle.std.proofs.lemmas.List.{drop_all}
 use Rattle.st_base.specs.TokenBytes.{is_white_byte}
 use Rattle.st_tree.specs.Symbols.{unquoted, string_value}
 use Rattle.st_tree.specs.Headers.{onto_word, words_behind, words_of, comments_in}
-use Rattle.sif_elements.specs.Words.{in_front, if_open}
+use Rattle.sif_elements.specs.Words.{in_front}
 
 -- all bytes of a string are kept or skipped
 pub string_done : (t items bytes : List ℕ) (skips : Bool) (i : ℕ) → length items ≤ i → bytes ++ unquoted skips (drop i items) ≡ unquoted false items → items ≡ take (length t - 2) (drop 1 t) → bytes ≡ string_value t

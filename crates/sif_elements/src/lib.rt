@@ -8,4 +8,6 @@ pub mod headers;
 pub mod law;
 pub mod progress;
 pub mod rows;
+#[cfg(test)]
+mod tests;
 pub mod words;

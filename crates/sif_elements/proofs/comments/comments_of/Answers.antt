@@ -1,6 +1,4 @@
-use Rattle.std.proofs.Common.{◌≡◌, ◌++◌, drop, List, ℕ, false, arith, rules}
-use Rattle.st_tree.specs.Headers.{comments_in}
-use Rattle.sif_elements.specs.Words.{if_open}
+use Rattle.std.proofs.Common.{arith}
 use Rattle.sif_elements.proofs.WordLemmas.{comments_open, comments_closed}
 use Rattle.sif_elements.proofs.comments.comments_of.Goals as goal
 use Rattle.sif_elements.proofs.comments.comments_of.Goals.{then-is_open+in_ok-from_bytes+in_ok-push, else-is_open}

@@ -1,4 +1,3 @@
-use Rattle.std.proofs.Common.{◌≡◌, ◌++◌, ℕ, List, rules}
 use Rattle.sif_elements.proofs.WordLemmas.{comment_done, comment_more}
 use Rattle.sif_elements.proofs.comments.take_into_comments.Goals as goal
 

@@ -1,4 +1,3 @@
-use Rattle.std.proofs.Common.{rules}
 use Rattle.sif_elements.proofs.StepLemmas.{told_made, step_refused}
 use Rattle.sif_elements.proofs.progress.behind_text.Goals as goal
 

@@ -1,4 +1,3 @@
-use Rattle.std.proofs.Common.{rules}
 use Rattle.st_tree.specs.Headers.{initializer, pool_initializer, program_initializer, method, class_method}
 use Rattle.sif_elements.specs.Told.{makes}
 use Rattle.sif_elements.proofs.progress.unit_of.Goals as goal

@@ -1,4 +1,3 @@
-use Rattle.std.proofs.Common.{◌≡◌, ◌++◌, ℕ, List, rules}
 use Rattle.sif_elements.proofs.WordLemmas.{word_more, word_done}
 use Rattle.sif_elements.proofs.words.take_into_words.Goals as goal
 

@@ -1,4 +1,4 @@
-use Rattle.std.proofs.Common.{◌≡◌, ◌∙◌, sym, arith, rules}
+use Rattle.std.proofs.Common.{◌∙◌, sym, arith}
 use Rattle.sif_elements.proofs.WordLemmas.{words_done, words_of-some}
 use Rattle.sif_elements.proofs.words.words_of.Goals as goal
 
