@@ -1,2 +1,3 @@
 mod Only
+pub mod StepLemmas
 pub mod WordLemmas
