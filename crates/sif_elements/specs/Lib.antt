@@ -1,3 +1,5 @@
 pub mod Places
 pub mod Reading
 pub mod Steps
+pub mod Told
+pub mod Answered

@@ -3,5 +3,6 @@
 
 pub mod law;
 pub mod progress;
+pub mod reading;
 pub mod rows;
 pub mod words;
