@@ -3,3 +3,4 @@ pub mod Reading
 pub mod Steps
 pub mod Told
 pub mod Answered
+pub mod Turns

@@ -1,8 +1,9 @@
 // The whole of a file, element by element.
-ghost use Rattle.std.specs.Prelude.{◌≡◌, ◌≢◌, ◌-◌, ◌<◌, ◌^◌, [], Some, IfSome};
+ghost use Rattle.std.specs.Prelude.{◌≡◌, ◌≢◌, ◌-◌, ◌<◌, ◌≤◌, ◌^◌, [], length, Some, IfSome};
 ghost use Rattle.st_base.specs.Streams.{Rose};
 ghost use Rattle.st_tree.specs.Numbers.{elements_in};
-ghost use Rattle.sif_elements.specs.Steps.{reading, at_end};
+ghost use Rattle.sif_elements.specs.Steps.{reading, step_of, at_end};
+ghost use Rattle.sif_elements.specs.Turns.{turn_of, turn_behind, made, Ends};
 ghost use Rattle.sif_elements.specs.Answered.{said, IfRead, Took, LeavesOpen};
 
 use crate::progress::{Progress, Stepped, step};
@@ -24,19 +25,58 @@ pub enum ReadAnswer {
     OutOfMemory,
 }
 
+// Where an answer of the reader leads: further, or to what reading answers.
+#[derive(Drop)]
+enum Turned {
+    Goes(Progress),
+    Ends(ReadAnswer),
+}
+
+fn refuse(place: Place, reason: Reason) -> Turned
+    ensures { result ≡ Turned.Ends (ReadAnswer.Refused place reason) }
+{
+    Turned::Ends(ReadAnswer::Refused(place, reason))
+}
+
 // The file ends, and the next element would have this number.
-fn finish(progress: Progress, number: u32) -> ReadAnswer
-    ensures { said result ≡ Some (at_end progress number) }
+fn finish(progress: Progress, number: u32) -> Turned
+    ensures { made result ≡ Some (Ends (at_end progress number)) }
 {
     let element = number;
     match progress {
-        Progress::Start => {
-            ReadAnswer::Refused(Place { element, byte: 0 }, Reason::MissingVersion)
+        Progress::Start => refuse(Place { element, byte: 0 }, Reason::MissingVersion),
+        Progress::Awaiting(_, _) => refuse(Place { element, byte: 0 }, Reason::MissingText),
+        Progress::Between(units) => Turned::Ends(ReadAnswer::Read(Definition { units })),
+    }
+}
+
+// Takes the element with this number.
+fn take_element(alloc: Global, progress: Progress, number: u32, text: &[u8]) -> Turned
+    requires { length text.now ≤ 1048576 }
+    ensures { IfSome (made result) (λ turn. turn ≡ turn_behind number (step_of progress text.now)) }
+{
+    match step(alloc, progress, text) {
+        Stepped::Goes(after) => Turned::Goes(after),
+        Stepped::Spoilt(byte, reason) => {
+            let element = number;
+            refuse(Place { element, byte }, reason)
         }
-        Progress::Awaiting(_, _) => {
-            ReadAnswer::Refused(Place { element, byte: 0 }, Reason::MissingText)
-        }
-        Progress::Between(units) => ReadAnswer::Read(Definition { units }),
+        Stepped::OutOfMemory => Turned::Ends(ReadAnswer::OutOfMemory),
+    }
+}
+
+// Goes where an answer of the reader leads.
+fn turn(alloc: Global, progress: Progress, next: Next, reader: &ChunkReader) -> Turned
+    ensures { IfSome (made result) (λ turn. turn ≡ turn_of progress next reader.now.number reader.now.text) }
+{
+    let place = reader.place();
+    match next {
+        Next::Element => take_element(alloc, progress, place.element, reader.text()),
+        Next::End => finish(progress, place.element),
+        Next::Unfinished => refuse(place, Reason::Unfinished),
+        Next::TooLong => refuse(place, Reason::ElementTooLong),
+        Next::InputTooLong => refuse(place, Reason::InputTooLong),
+        Next::ReadFault => Turned::Ends(ReadAnswer::ReadFault),
     }
 }
 
@@ -59,21 +99,9 @@ pub fn read_definition<S: Source>(alloc: Global, source: &mut S) -> ReadAnswer
     let mut progress = Progress::Start;
     loop {
         let next = reader.next(source);
-        let place = reader.place();
-        match next {
-            Next::Element => match step(alloc, progress, reader.text()) {
-                Stepped::Goes(after) => progress = after,
-                Stepped::Spoilt(byte, reason) => {
-                    let element = place.element;
-                    return ReadAnswer::Refused(Place { element, byte }, reason);
-                }
-                Stepped::OutOfMemory => return ReadAnswer::OutOfMemory,
-            },
-            Next::End => return finish(progress, place.element),
-            Next::Unfinished => return ReadAnswer::Refused(place, Reason::Unfinished),
-            Next::TooLong => return ReadAnswer::Refused(place, Reason::ElementTooLong),
-            Next::InputTooLong => return ReadAnswer::Refused(place, Reason::InputTooLong),
-            Next::ReadFault => return ReadAnswer::ReadFault,
+        match turn(alloc, progress, next, &reader) {
+            Turned::Goes(after) => progress = after,
+            Turned::Ends(answer) => return answer,
         }
     }
 }
