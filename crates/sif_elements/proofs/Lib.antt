@@ -1,2 +1,5 @@
 mod Only
+mod Ahead
+mod TakenLemmas
+mod Counts
 pub mod WordLemmas

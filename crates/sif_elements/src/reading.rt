@@ -67,7 +67,8 @@ fn take_element(alloc: Global, progress: Progress, number: u32, text: &[u8]) -> 
 
 // Goes where an answer of the reader leads.
 fn turn(alloc: Global, progress: Progress, next: Next, reader: &ChunkReader) -> Turned
-    ensures { IfSome (made result) (λ turn. turn ≡ turn_of progress next reader.now.number reader.now.text) }
+    ensures made { IfSome (made result) (λ turn. turn ≡ turn_of progress next reader.now.number reader.now.text) }
+    ensures fault { next ≡ Next.ReadFault → result ≡ Turned.Ends ReadAnswer.ReadFault }
 {
     let place = reader.place();
     match next {
