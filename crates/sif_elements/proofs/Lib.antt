@@ -2,4 +2,5 @@ mod Only
 mod Ahead
 mod TakenLemmas
 mod Counts
+mod Weighing
 pub mod WordLemmas
