@@ -136,7 +136,7 @@ takes_text : (us : List Unit) (t : Target) (text : List ℕ) (v : Verdict) (q : 
 takes_text us t text (Good tree) q m h = takes_tree us t text tree (kind_of t tree) q m refl h
 takes_text us t text (Bad byte why) q m h = absurd (goes_or_spoilt (sym h))
 
-takes_of : (p : Progress) (text : List ℕ) (q : Progress) → step_of p text ≡ Goes q → Takes p text q
+pub takes_of : (p : Progress) (text : List ℕ) (q : Progress) → step_of p text ≡ Goes q → Takes p text q
 takes_of Start text q h = takes_first text (first_element text) q refl h
 takes_of (Between us) text q h = takes_element us text (element text) q refl h
 takes_of (Awaiting us t) text q h = takes_text us t text (verdict_of (production_of t) text (lexed_of text).tokens (lexed_of text).fault) q (verdict_right (production_of t) text (lexed_of text).fault (lexed_of text).tokens) h

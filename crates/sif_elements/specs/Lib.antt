@@ -3,3 +3,6 @@ pub mod Reading
 pub mod Steps
 pub mod Told
 pub mod Words
+pub mod Answered
+pub mod Turns
+pub mod Small

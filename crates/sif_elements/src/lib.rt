@@ -7,6 +7,7 @@ pub mod filling;
 pub mod headers;
 pub mod law;
 pub mod progress;
+pub mod reading;
 pub mod rows;
 #[cfg(test)]
 mod tests;

@@ -1,0 +1,20 @@
+use Rattle.std.proofs.Common.{◌≡◌, ◌+◌, ◌-◌, ◌*◌, ◌≤◌, ℕ, List, IfSome}
+use Rattle.sif_chunks.specs.Reading.{judged, max_input}
+use Rattle.st_tree.specs.Numbers.{elements_in}
+use Rattle.sif_elements.proofs.Ahead.{IsBefore, Follows, answer_ahead}
+use Rattle.sif_elements.proofs.TakenLemmas.{TakenSoFar, Counted}
+use Rattle.sif_elements.proofs.Counts.{units_of}
+use Rattle.sif_elements.proofs.reading.read_definition.Given as goal
+
+-- what is to be answered, what was taken, and how much was read of it
+abbrev pub invariant-loop-after : goal.invariant-loop-after
+invariant-loop-after g l = record {
+  ahead : (n : ℕ) × IsBefore n l.reader × Follows (g.S.Source.left l.fn.source) (answer_ahead l.progress n l.reader) (g.S.Source.left l.source) × IfSome (g.S.Source.left l.fn.source) (λ file. TakenSoFar file (g.S.Source.left l.source) l.progress n l.reader);
+  counted : Counted (g.S.Source.left l.fn.source) (g.S.Source.left l.source) l.reader;
+  faults : g.S.Source.faults l.source ≡ g.S.Source.faults l.fn.source;
+  bound : judged l.reader ≤ max_input;
+  few : elements_in (units_of l.progress) ≤ 2 * judged l.reader;
+}
+
+abbrev pub decreases-loop-after : goal.decreases-loop-after
+decreases-loop-after g l = max_input - judged l.reader
