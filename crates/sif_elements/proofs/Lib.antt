@@ -3,4 +3,9 @@ mod Ahead
 mod TakenLemmas
 mod Counts
 mod Weighing
+mod Weighed
+mod Paid
+mod TreeSizes
+mod HeaderSizes
+mod Sized
 pub mod WordLemmas

@@ -89,7 +89,7 @@ pub fn read_definition<S: Source>(alloc: Global, source: &mut S) -> ReadAnswer
     ensures ended { IfRead result (λ units. IfSome (S.left source.new) (λ bytes. bytes ≡ [])) }
     ensures few { IfRead result (λ units. elements_in units < 2 ^ 32 - 1) }
     ensures took { Took (S.left source.old) (S.left source.new) }
-    ensures open { result ≡ ReadAnswer.ReadFault → IfSome (S.left source.old) (λ file. LeavesOpen file (S.left source.new)) }
+    ensures unsettled { result ≡ ReadAnswer.ReadFault → IfSome (S.left source.old) (λ file. LeavesOpen file (S.left source.new)) }
     ensures kept { result ≢ ReadAnswer.ReadFault → S.faults source.new ≡ S.faults source.old }
     ensures failed { result ≡ ReadAnswer.ReadFault → Rose (S.faults source.old) (S.faults source.new) }
 {

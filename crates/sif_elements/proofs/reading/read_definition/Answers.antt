@@ -71,8 +71,8 @@ returns-in-Ends-clause-took g c =
     took c.next-next.new.self (g.S.Source.left c.args.source.now) (g.S.Source.left c.next-next.new.source) c.next-next.ensures.most
     (counted_on c.next-next.result c.loop-after.reader c.next-next.new.self (g.S.Source.left c.args.source.now) (g.S.Source.left c.loop-after.source) (g.S.Source.left c.next-next.new.source) c.next-next.ensures.settled c.loop-after.invariant.counted)
 
-pub returns-in-Ends-clause-open : goal.returns-in-Ends-clause-open
-returns-in-Ends-clause-open g c = λ fault.
+pub returns-in-Ends-clause-unsettled : goal.returns-in-Ends-clause-unsettled
+returns-in-Ends-clause-unsettled g c = λ fault.
     let fails = fault_fails c.loop-after.progress c.next-next.result c.in-Ends.answer c.next-next.new.self.number c.next-next.new.self.text c.in-Ends.ensures.made fault in
     fault_leaves_open c.loop-after.progress c.loop-after.invariant.ahead.0 c.loop-after.reader c.next-next.new.self (g.S.Source.left c.args.source.now) (g.S.Source.left c.loop-after.source) (g.S.Source.left c.next-next.new.source) c.loop-after.invariant.ahead.1 (rw fails at c.next-next.ensures.settled) (c.next-next.ensures.input (rw fails at c.next-next.ensures.stop)) c.loop-after.invariant.ahead.3
 
