@@ -220,6 +220,13 @@ read_at_end p next.TooLong us n text is = absurd (let k : Ends (Read us) ≡ End
 read_at_end p next.InputTooLong us n text is = absurd (let k : Ends (Read us) ≡ Ends (Refuse _ _ _) = is in cc)
 read_at_end p next.ReadFault us n text is = absurd (let k : Ends (Read us) ≡ Fails = is in cc)
 
+-- units are read only between elements
+pub if_between : (P : List Unit → Type 0) (p : Progress) (answer : Next) (result : ReadAnswer) (n : ℕ) (text : List ℕ) → IfSome (made (turned.Ends result)) (λ turn. turn ≡ turn_of p answer n text) → ((us : List Unit) → p ≡ Between us → P us) → IfRead result P
+if_between P p answer (outcome.Read d) n text is holds = holds d.units (read_at_end p answer d.units n text is).1
+if_between P p answer (outcome.Refused place why) n text is holds = tt
+if_between P p answer outcome.ReadFault n text is holds = tt
+if_between P p answer outcome.OutOfMemory n text is holds = tt
+
 -- what holds of the units so far holds of those that were read
 pub if_read : (P : List Unit → Type 0) (p : Progress) (answer : Next) (result : ReadAnswer) (n : ℕ) (text : List ℕ) → IfSome (made (turned.Ends result)) (λ turn. turn ≡ turn_of p answer n text) → P (units_of p) → IfRead result P
 if_read P p answer (outcome.Read d) n text is holds = subst (λ (q : Progress). P (units_of q)) (read_at_end p answer d.units n text is).1 holds

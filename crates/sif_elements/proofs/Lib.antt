@@ -8,4 +8,6 @@ mod Paid
 mod TreeSizes
 mod HeaderSizes
 mod Sized
+mod Readable
+mod TextBytes
 pub mod WordLemmas

@@ -1,10 +1,11 @@
 -- The units so far are small where the texts so far are.
-use Rattle.std.proofs.Common.{◌≡◌, ℕ, ◌+◌, ◌*◌, ◌^◌, ◌≤◌, List, [], ◌∷◌, ◌++◌, length, refl, ap, sym, ◌∙◌, subst, arith}
+use Rattle.std.proofs.Common.{◌≡◌, ℕ, ◌+◌, ◌*◌, ◌^◌, ◌<◌, ◌≤◌, List, [], ◌∷◌, ◌++◌, length, refl, ap, sym, ◌∙◌, subst, arith}
 use Rattle.std.specs.Prelude.{All}
 use Rattle.std.specs.List.{sum_by}
 use Rattle.std.proofs.lemmas.List.{length-append}
 use Rattle.std.proofs.lemmas.List.Sums.{sum_by-cons, sum_by_push}
-use Rattle.sif_chunks.specs.Reading.{max_text}
+use Rattle.std.proofs.lemmas.List.Elements.{All-nil, All-cons, All-head, All-tail, All-push}
+use Rattle.sif_chunks.specs.Reading.{max_text, max_input}
 use Rattle.st_tree.specs.declared.units.UnitKind.{UnitKind}
 use Rattle.st_tree.specs.declared.units.UnitKind.TheVariants as kinds
 use Rattle.st_tree.specs.declared.units.Annotation.{Annotation}
@@ -17,9 +18,10 @@ use Rattle.st_tree.specs.Numbers.{unit, annotated}
 use Rattle.sif_elements.specs.declared.progress.Progress.{Progress}
 use Rattle.sif_elements.specs.declared.progress.Progress.TheVariants.{Start, Between, Awaiting}
 use Rattle.sif_elements.specs.Reading.{Takes, version, whole, header, annotation, text_of_header}
-use Rattle.sif_elements.specs.Small.{unit_size, kind_size, annotation_size, moves_of}
+use Rattle.sif_elements.specs.Small.{IsSmall, unit_size, kind_size, annotation_size, moves_of}
 use Rattle.sif_elements.proofs.Counts.{units_of, sum_by-annotated}
 use Rattle.sif_elements.proofs.HeaderSizes.{target_size, element-small, first_element-small}
+use Rattle.sif_elements.proofs.Readable.{IsReadableSoFar, readable_more}
 use Rattle.sif_elements.proofs.TreeSizes.{tree_size, tree_moves, text_size_most, text_moves_most}
 
 -- the parts of the units so far, and of a header
@@ -47,7 +49,7 @@ size-unit us kind n h = omega (arith, h, sum_by_push unit_size us (unit kind [])
 
 -- each text adds at most thirteen parts a byte
 pub size_more : {p q : Progress} {text : List ℕ} → Takes p text q → size_of q ≤ size_of p + (6 * length text + 7)
-size_more {text = text} (version {kind = kind} e) = size-unit [] kind (6 * length text + 6) (first_element-small text (Whole kind) e).0
+size_more {text = text} (version {kind = kind} e) = omega (arith, size-unit [] kind (6 * length text + 6) (first_element-small text (Whole kind) e).0)
 size_more {text = text} (whole {kind = kind} {us = us} e) = omega (arith, size-unit us kind (6 * length text + 6) (element-small text (Whole kind) e).0)
 size_more {text = text} (header {target = t} e) = omega (arith, element-small text (Awaits t) e)
 size_more {text = text} (annotation {a = a} {us = us} e) =
@@ -65,12 +67,12 @@ abbrev pub AreShort : List Unit → Type 0
 AreShort us = All IsShort us
 
 short-unit : (us : List Unit) (kind : UnitKind) → moves_of kind ≤ 2 ^ 20 + 1 → AreShort us → AreShort (us ++ unit kind [] ∷ [])
-short-unit us kind h all = ?
+short-unit us kind h all = All-push IsShort us (unit kind []) all h
 
 short-annotated : (us : List Unit) (a : Annotation) → AreShort us → AreShort (annotated us a)
 short-annotated [] a all = all
-short-annotated (u ∷ []) a all = ?
-short-annotated (u ∷ v ∷ us) a all = ?
+short-annotated (u ∷ []) a all = All-cons IsShort (unit u.kind (u.annotations ++ a ∷ [])) [] (All-head IsShort u [] all) (All-nil IsShort)
+short-annotated (u ∷ v ∷ us) a all = All-cons IsShort u (annotated (v ∷ us) a) (All-head IsShort u (v ∷ us) all) (short-annotated (v ∷ us) a (All-tail IsShort u (v ∷ us) all))
 
 pub short_more : {p q : Progress} {text : List ℕ} → length text ≤ max_text → Takes p text q → AreShort (units_of p) → AreShort (units_of q)
 short_more {text = text} fits (version {kind = kind} e) all = short-unit [] kind (omega (arith, (first_element-small text (Whole kind) e).1)) all
@@ -78,3 +80,23 @@ short_more {text = text} fits (whole {kind = kind} {us = us} e) all = short-unit
 short_more fits (header e) all = all
 short_more fits (annotation {a = a} {us = us} e) all = short-annotated us a all
 short_more {text = text} fits (text_of_header {kind = kind} {us = us} is made) all = short-unit us kind (omega (arith, unit_of-moves made, text_moves_most is, fits)) all
+
+-- all that is known of the units so far, of which so many bytes were judged
+pub record IsSized (p : Progress) (bytes : ℕ) : Type 0 where
+  pub parts : size_of p ≤ 13 * bytes
+  pub bodies : AreShort (units_of p)
+  pub readable : IsReadableSoFar p
+
+pub sized_at_start : IsSized Start 0
+sized_at_start = record { parts = omega arith; bodies = All-nil IsShort; readable = tt }
+
+pub sized_more : {p q : Progress} {text : List ℕ} (old new : ℕ) → length text ≤ max_text → Takes p text q → old < new → old + length text ≤ new → IsSized p old → IsSized q new
+sized_more old new fits takes moved judges so_far = record {
+  parts = omega (arith, size_more takes, moved, judges, so_far.parts);
+  bodies = short_more fits takes so_far.bodies;
+  readable = readable_more takes so_far.readable;
+}
+
+-- the units of a file that is no longer than the longest are small
+pub small_between : (us : List Unit) (bytes : ℕ) → bytes ≤ max_input → IsSized (Between us) bytes → IsSmall us
+small_between us bytes short sized = record { readable = sized.readable; few_parts = omega (arith, sized.parts, short); short_bodies = sized.bodies }

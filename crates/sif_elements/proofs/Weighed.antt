@@ -58,7 +58,6 @@ binary_in : (w : Weights) (t : List ℕ) (at : ℕ) (p : Primary) (us : List Mes
 binary_in w t at p us = omega (arith, message_weighs w t at (operand p us ∷ []), operand_weighs w p us)
 
 module _ {w : Weights} {pay : Sym → ℕ} (pays : Pays w pay) where
-
   pub unaries : {a b : List Sym} {ms : List Message} → g.Unaries a b ms → messages_in w ms + paid pay b ≤ paid pay a
   unaries g.none = omega arith
   unaries (g.more {t = t} {at = at} {ms = ms} u) = omega (arith, sum_by-cons (message_in w) (message t at []) ms, unary_in w t at, pays.unaries t at, unaries u)
