@@ -1,5 +1,5 @@
 -- What is answered of a file, from one answer of the reader to the next.
-use Rattle.std.proofs.Common.{◌≡◌, ◌≢◌, ◌+◌, ◌-◌, ℕ, Bool, true, false, not, List, [], ◌∷◌, ◌++◌, take, length, Option, None, Some, IfSome, refl, ap, sym, ◌∙◌, subst, arith, ltb, if◌then◌else◌}
+use Rattle.std.proofs.Common.{◌≡◌, ◌≢◌, ◌+◌, ℕ, Bool, true, false, not, List, [], ◌∷◌, ◌++◌, take, length, Option, None, Some, IfSome, refl, ap, sym, ◌∙◌, subst, arith, ltb, if◌then◌else◌}
 use borrow.Author.Tests.{ltb-true}
 use Rattle.std.specs.Option.{option_map}
 use Rattle.std.proofs.lemmas.List.{length-take}

@@ -1,5 +1,5 @@
 -- What an element says is small where its text is.
-use Rattle.std.proofs.Common.{◌≡◌, ℕ, ◌+◌, ◌-◌, ◌*◌, ◌≤◌, List, [], ◌∷◌, ◌++◌, length, drop, Bool, true, false, if◌then◌else◌, Option, None, Some, refl, ap, sym, ◌∙◌, subst, arith}
+use Rattle.std.proofs.Common.{◌≡◌, ℕ, ◌+◌, ◌-◌, ◌*◌, ◌≤◌, List, [], ◌∷◌, length, drop, Bool, true, false, if◌then◌else◌, Option, None, Some, refl, subst, arith}
 use Rattle.std.specs.Prelude.{◌==◌, slice_get}
 use Rattle.std.specs.List.{sum_by}
 use Rattle.std.proofs.lemmas.List.{length-take, length-drop}
@@ -10,7 +10,6 @@ use Rattle.st_base.specs.declared.faults.Reason.{Reason}
 use Rattle.st_base.specs.declared.faults.Reason.TheVariants as reason
 use Rattle.st_base.specs.declared.tokens.Token.{Token}
 use Rattle.st_base.specs.declared.tokens.LexFault.{LexFault}
-use Rattle.st_tree.specs.declared.units.UnitKind.{UnitKind}
 use Rattle.st_tree.specs.declared.units.UnitKind.TheVariants as kinds
 use Rattle.st_tree.specs.declared.headers.Header.{Header}
 use Rattle.st_tree.specs.declared.headers.Header.TheVariants.{Whole, Awaits, Annotates}
@@ -18,11 +17,11 @@ use Rattle.st_tree.specs.declared.headers.Target.{Target}
 use Rattle.st_tree.specs.declared.headers.Target.TheVariants as target
 use Rattle.st_tree.specs.declared.headers.Row.{Row}
 use Rattle.st_tree.specs.declared.headers.Row.TheVariants as row
-use Rattle.st_tree.specs.Symbols.{text_of, string_value}
-use Rattle.st_tree.specs.Headers.{onto_word, words_behind, words_of, string_in, string_at, class_of, header_of, row_of, comments_in, comments_of, slots_of, walk, is_identifier_kind, Walk, Filled, Stuck, Short, Element, Says, Faulty, judged, by_row, says, says_first, begins_version}
+use Rattle.st_tree.specs.Symbols.{text_of}
+use Rattle.st_tree.specs.Headers.{onto_word, words_behind, words_of, string_in, string_at, header_of, row_of, comments_in, comments_of, slots_of, walk, is_identifier_kind, Walk, Filled, Stuck, Short, Element, Says, Faulty, judged, by_row, says, begins_version}
 use Rattle.st_tree.specs.Units.{element, first_element}
 use Rattle.sif_elements.specs.Small.{text_size, kind_size, annotation_size, moves_of}
-use Rattle.sif_elements.proofs.Paid.{string_value-length, text_of-length}
+use Rattle.sif_elements.proofs.Paid.{string_value-length}
 
 -- the names of a target
 abbrev pub target_size : Target → ℕ

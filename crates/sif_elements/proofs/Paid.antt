@@ -1,5 +1,5 @@
 -- What a text's symbols pay, as moves and as parts.
-use Rattle.std.proofs.Common.{◌≡◌, ℕ, ℤ, ◌+◌, ◌-◌, ◌*◌, ◌<◌, ◌≤◌, List, [], ◌∷◌, ◌++◌, length, take, drop, map, Bool, true, false, if◌then◌else◌, codes, refl, ap, sym, ◌∙◌, subst, arith}
+use Rattle.std.proofs.Common.{◌≡◌, ℕ, ◌+◌, ◌-◌, ◌*◌, ◌≤◌, List, [], ◌∷◌, ◌++◌, length, take, drop, Bool, true, false, if◌then◌else◌, codes, refl, ap, sym, ◌∙◌, subst, arith}
 use Rattle.std.specs.Prelude.{pos, ◌-ℤ◌, ◌==◌, slice_index}
 use Rattle.std.specs.Str.{bytes_eq}
 use Rattle.std.specs.List.{sum_by}
@@ -14,11 +14,11 @@ use Rattle.st_tree.specs.declared.tree.Literal.{Literal}
 use Rattle.st_tree.specs.declared.tree.Literal.TheVariants as literal
 use Rattle.st_tree.specs.declared.tree.Primary.{Primary}
 use Rattle.st_tree.specs.declared.tree.Primary.TheVariants as primary
-use Rattle.st_tree.specs.Symbols.{Sym, Id, Key, Op, Minus, Bar, TwoBars, ThreeBars, Num, Lit, ArrayOpen, ParenOpen, ParenClose, BlockOpen, BlockClose, Colon, Assign, Caret, Period, Semicolon, IsOp, op, minus, bar, two_bars, three_bars, Role, IsName, IsValue, IsSuper, role, word_item, unquoted, string_value, operator_at, sym_at, text_of, sym_of, syms}
-use Rattle.st_tree.specs.Trees.{integer, negative, array, constant}
+use Rattle.st_tree.specs.Symbols.{Sym, Id, Key, Op, Minus, Bar, TwoBars, ThreeBars, Lit, ParenClose, IsOp, op, minus, bar, two_bars, three_bars, IsName, IsValue, IsSuper, role, word_item, unquoted, string_value, operator_at, sym_at, text_of, syms}
+use Rattle.st_tree.specs.Trees.{array, constant}
 use Rattle.st_tree.specs.Grammar as g
 use Rattle.st_parser.proofs.Words.{role_is, word_item_is, string_value_is}
-use Rattle.sif_elements.specs.Small.{Weights, text_size, literal_size, moves, parts}
+use Rattle.sif_elements.specs.Small.{literal_size, moves, parts}
 use Rattle.sif_elements.proofs.Weighing.{primary_in, constant_weighs, self_weighs, array_size, symbol_size, str_size, integer_size, character_size, nil_size, true_size, false_size}
 use Rattle.sif_elements.proofs.Weighed.{paid, Pays}
 

@@ -1,13 +1,9 @@
 -- The units so far are those of some texts.
 use Rattle.std.proofs.Common.{◌≡◌, ℕ, List, [], ◌∷◌, ◌++◌, refl}
-use Rattle.st_tree.specs.declared.units.UnitKind.{UnitKind}
 use Rattle.st_tree.specs.declared.units.Annotation.{Annotation}
 use Rattle.st_tree.specs.declared.units.Unit as unit
-use Rattle.st_tree.specs.declared.headers.Target.{Target}
-use Rattle.st_tree.specs.declared.headers.Header.TheVariants.{Whole, Awaits, Annotates}
-use Rattle.st_tree.specs.Grammar.{Tree}
-use Rattle.st_tree.specs.Headers.{UnitOf, production_of, Says}
-use Rattle.st_tree.specs.Numbers as numbers
+use Rattle.st_tree.specs.declared.headers.Header.TheVariants.{Awaits, Annotates}
+use Rattle.st_tree.specs.Headers.{Says}
 use Rattle.st_tree.specs.Numbers.{annotated}
 use Rattle.st_tree.specs.Units as u
 use Rattle.st_tree.specs.Units.{element, TextIs, Annotated, Further, Units, IsReadable, file}

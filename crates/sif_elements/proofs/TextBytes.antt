@@ -1,9 +1,9 @@
 -- The text of an element has at most as many bytes as were judged for it.
-use Rattle.std.proofs.Common.{◌≡◌, ◌⊎◌, inl, inr, ◌+◌, ◌-◌, ◌<◌, ◌≤◌, ℕ, Bool, true, false, List, [], ◌∷◌, ◌++◌, take, length, not, Option, None, Some, refl, ap, sym, ◌∙◌, subst, arith, ltb, if◌then◌else◌}
+use Rattle.std.proofs.Common.{◌≡◌, inl, inr, ◌+◌, ◌≤◌, ℕ, Bool, true, false, List, [], ◌∷◌, ◌++◌, take, length, not, Option, refl, ap, sym, ◌∙◌, arith, ltb, if◌then◌else◌}
 use Rattle.std.specs.Prelude.{◌==◌}
-use Rattle.std.proofs.lemmas.List.{append-nil, length-append}
-use Rattle.sif_chunks.specs.Split.{Parts, Split, doubled, joined, onto, onto_first, with_text, parts_of, parts_behind}
-use Rattle.sif_chunks.specs.Reading.{Reader, Answer, answer_for, answer_in, last_answer, outlook_over, told_over, stopped, nothing, Settled, Settles, judged, is_white, max_text}
+use Rattle.std.proofs.lemmas.List.{length-append}
+use Rattle.sif_chunks.specs.Split.{Parts, doubled, joined, onto, onto_first, with_text, parts_of, parts_behind}
+use Rattle.sif_chunks.specs.Reading.{Reader, Answer, answer_for, last_answer, outlook_over, told_over, stopped, Settled, Settles, judged, is_white, max_text}
 use Rattle.sif_chunks.specs.declared.next.Next.{Next}
 use Rattle.sif_chunks.specs.declared.next.Next.TheVariants as next
 use Rattle.sif_chunks.proofs.SplitLaw.{Split-parts_of}

@@ -1,11 +1,11 @@
 -- The tree of a text is small where the text is.
-use Rattle.std.proofs.Common.{◌≡◌, ℕ, ◌+◌, ◌*◌, ◌≤◌, List, [], ◌∷◌, ◌++◌, length, refl, ap, sym, ◌∙◌, arith}
+use Rattle.std.proofs.Common.{ℕ, ◌+◌, ◌*◌, ◌≤◌, List, [], length, arith}
 use Rattle.std.proofs.lemmas.List.Sums.{sum_by-cons}
 use Rattle.st_base.specs.Lexed.{lexed_of}
 use Rattle.st_lexer.proofs.Order.{lexed_of-order}
 use Rattle.st_tree.specs.declared.tree.Name.{Name}
 use Rattle.st_tree.specs.declared.tree.Statement.{Statement}
-use Rattle.st_tree.specs.Symbols.{Sym, syms}
+use Rattle.st_tree.specs.Symbols.{Sym}
 use Rattle.st_tree.specs.Trees.{name, body}
 use Rattle.st_tree.specs.Grammar as g
 use Rattle.st_tree.specs.Grammar.{Production, Tree, MethodTree, BodyTree, Derives, is_body, is_method}

@@ -1,5 +1,5 @@
 -- What a tree weighs is at most what its symbols pay, one after another.
-use Rattle.std.proofs.Common.{◌≡◌, ℕ, ◌+◌, ◌≤◌, List, [], ◌∷◌, ◌++◌, Bool, true, false, refl, ap, sym, ◌∙◌, arith}
+use Rattle.std.proofs.Common.{◌≡◌, ℕ, ◌+◌, ◌≤◌, List, [], ◌∷◌, ◌++◌, Bool, true, false, arith}
 use Rattle.std.specs.List.{sum_by}
 use Rattle.std.proofs.lemmas.List.Sums.{sum_by-cons, sum_by-append}
 use Rattle.st_tree.specs.declared.tree.Name.{Name}
@@ -9,10 +9,10 @@ use Rattle.st_tree.specs.declared.tree.Statement.{Statement}
 use Rattle.st_tree.specs.declared.tree.Message.{Message}
 use Rattle.st_tree.specs.declared.tree.Operand.{Operand}
 use Rattle.st_tree.specs.Symbols.{Sym, Id, Key, Num, Lit, ArrayOpen, ParenClose, BlockOpen, BlockClose, Caret, Period, IsOp, role, IsValue}
-use Rattle.st_tree.specs.Trees.{name, integer, negative, array, constant, message, operand, expr, paren, block, stated}
+use Rattle.st_tree.specs.Trees.{name, integer, negative, array, message, operand, expr, stated}
 use Rattle.st_tree.specs.Grammar as g
 use Rattle.sif_elements.specs.Small.{Weights, names_weight}
-use Rattle.sif_elements.proofs.Weighing.{primary_in, statement_in, message_in, operand_in, expr_in, message_weighs, operand_weighs, expr_weighs, stated_weighs, variable_weighs, super_weighs, constant_weighs, paren_weighs, block_weighs}
+use Rattle.sif_elements.proofs.Weighing.{primary_in, statement_in, message_in, operand_in, message_weighs, operand_weighs, expr_weighs, stated_weighs, variable_weighs, super_weighs, constant_weighs, paren_weighs, block_weighs}
 
 -- what symbols pay
 abbrev pub paid : (Sym → ℕ) → List Sym → ℕ

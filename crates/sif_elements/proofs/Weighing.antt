@@ -1,6 +1,5 @@
 -- What the parts of a tree weigh, each by its own parts.
-use Rattle.std.proofs.Common.{◌≡◌, ℕ, ◌+◌, List, [], ◌∷◌, map, refl, ap, sym, ◌∙◌, true, false, Bool, ℤ}
-use Rattle.std.specs.Prelude.{sum}
+use Rattle.std.proofs.Common.{◌≡◌, ℕ, ◌+◌, List, ap, sym, ◌∙◌, true, false, Bool, ℤ}
 use Rattle.std.specs.List.{sum_by}
 use Rattle.std.proofs.lemmas.List.Sums.{sum-map}
 use Rattle.st_tree.specs.declared.tree.Name.{Name}
@@ -11,14 +10,14 @@ use Rattle.st_tree.specs.declared.tree.Primary.{Primary}
 use Rattle.st_tree.specs.declared.tree.Primary.TheOpen.{Primary-F, Statement-F}
 use Rattle.st_tree.specs.declared.tree.Statement.TheVariants as statement
 use Rattle.st_tree.specs.declared.tree.Primary.TheVariants as primary
-use Rattle.st_tree.specs.declared.tree.Primary.TheFolds.{fold-Primary, fold-Statement, fold-Block, fold-Body, fold-Expr, fold-Message, fold-Operand, fold-roll-Primary, fold-roll-Statement, fold-roll-Block, fold-roll-Body, fold-roll-Expr, fold-roll-Message, fold-roll-Operand}
+use Rattle.st_tree.specs.declared.tree.Primary.TheFolds.{fold-Primary, fold-Statement, fold-Block, fold-Expr, fold-Message, fold-Operand, fold-roll-Primary, fold-roll-Statement, fold-roll-Block, fold-roll-Body, fold-roll-Expr, fold-roll-Message, fold-roll-Operand}
 use Rattle.st_tree.specs.declared.tree.Statement.{Statement}
 use Rattle.st_tree.specs.declared.tree.Block.{Block, roll-Block}
 use Rattle.st_tree.specs.declared.tree.Body.{Body}
 use Rattle.st_tree.specs.declared.tree.Expr.{Expr}
 use Rattle.st_tree.specs.declared.tree.Message.{Message}
 use Rattle.st_tree.specs.declared.tree.Operand.{Operand}
-use Rattle.st_tree.specs.Trees.{name, variable, integer, negative, array, constant, message, operand, expr, body, paren, block, stated}
+use Rattle.st_tree.specs.Trees.{variable, array, constant, message, operand, expr, body, paren, block, stated}
 use Rattle.sif_elements.specs.Small.{Weights, text_size, literal_layer, literal_size, primary_weight, statement_weight, names_weight, block_weight, layer_weight, expr_weight, message_weight, operand_weight, body_weight}
 
 unfoldable pub primary_in : Weights → Primary → ℕ

@@ -1,6 +1,6 @@
 -- The turns of reading, one after another.
-use Rattle.std.proofs.Common.{◌≡◌, ◌≢◌, ◌∙◌, ◌+◌, ◌-◌, ◌*◌, ◌^◌, ◌<◌, ◌≤◌, [], List, ℕ, true, None, Some, IfSome, refl, sym, ap, subst, arith, rules}
-use Rattle.sif_chunks.specs.Reading.{judged, max_input}
+use Rattle.std.proofs.Common.{◌≡◌, ◌∙◌, ◌+◌, ◌-◌, ◌^◌, ◌<◌, List, refl, sym, subst, arith}
+use Rattle.sif_chunks.specs.Reading.{judged}
 use Rattle.sif_chunks.specs.declared.next.Next.TheVariants as next
 use Rattle.st_tree.specs.Numbers.{elements_in}
 use Rattle.st_tree.specs.declared.units.Unit.{Unit}
@@ -9,7 +9,7 @@ use Rattle.sif_elements.specs.Small.{IsSmall}
 use Rattle.sif_elements.specs.Turns.{Onward, turn_of}
 use Rattle.sif_elements.proofs.Only.{takes_of}
 use Rattle.sif_elements.proofs.Ahead.{IsBefore-new, IsBefore-given, at_start, at_answer, after_element, answered, turn_goes, step_goes, fault_fails, no_fault, if_read, if_ended, if_between}
-use Rattle.sif_elements.proofs.TakenLemmas.{taken_at_start, taken_on, counted_at_start, counted_on, took, nothing_taken, fault_leaves_open}
+use Rattle.sif_elements.proofs.TakenLemmas.{taken_at_start, taken_on, counted_at_start, counted_on, took, fault_leaves_open}
 use Rattle.sif_elements.proofs.TextBytes.{text_judged}
 use Rattle.sif_elements.proofs.Sized.{IsSized, sized_at_start, sized_more, small_between}
 use Rattle.sif_elements.proofs.Counts.{few_more}

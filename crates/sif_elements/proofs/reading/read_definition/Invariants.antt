@@ -1,4 +1,4 @@
-use Rattle.std.proofs.Common.{◌≡◌, ◌+◌, ◌-◌, ◌*◌, ◌≤◌, ℕ, List, IfSome}
+use Rattle.std.proofs.Common.{◌≡◌, ◌-◌, ◌*◌, ◌≤◌, ℕ, IfSome}
 use Rattle.sif_chunks.specs.Reading.{judged, max_input}
 use Rattle.st_tree.specs.Numbers.{elements_in}
 use Rattle.sif_elements.proofs.Ahead.{IsBefore, Follows, answer_ahead}
