@@ -10,4 +10,5 @@ mod HeaderSizes
 mod Sized
 mod Readable
 mod TextBytes
+pub mod StepLemmas
 pub mod WordLemmas

@@ -1,13 +1,12 @@
 -- The computed reading of a file is the one that the relation gives.
-use Rattle.std.proofs.Common.{◌≡◌, ℕ, ◌+◌, ◌<◌, ◌≤◌, Bool, true, false, not, List, [], ◌∷◌, ◌++◌, take, drop, length, Option, None, Some, refl, ap, sym, ◌∙◌, subst, arith, if◌then◌else◌, ◌↔◌}
+use Rattle.std.proofs.Common.{◌≡◌, ℕ, ◌+◌, Bool, true, false, not, List, [], ◌∷◌, length, Option, None, Some, refl, ap, sym, ◌∙◌, subst, if◌then◌else◌, ◌↔◌}
 use Rattle.std.specs.Prelude.{nat_lt}
 use Rattle.std.proofs.lemmas.Bool.{ltb-true, ltb-false, lt-ltb, le-ltb}
 use Rattle.st_base.specs.declared.faults.Reason.{Reason}
 use Rattle.st_base.specs.declared.faults.Reason.TheVariants as reason
-use Rattle.st_base.specs.declared.tokens.Token.{Token}
 use Rattle.st_base.specs.declared.tokens.LexFault.{LexFault}
 use Rattle.st_base.specs.Lexed.{lexed_of}
-use Rattle.sif_chunks.specs.Reading.{max_text, max_input, is_white}
+use Rattle.sif_chunks.specs.Reading.{max_text, is_white}
 use Rattle.st_tree.specs.declared.units.UnitKind.{UnitKind}
 use Rattle.st_tree.specs.declared.units.UnitKind.TheVariants as kinds
 use Rattle.st_tree.specs.declared.units.Unit.{Unit}
@@ -19,14 +18,14 @@ use Rattle.st_tree.specs.declared.headers.Target.{Target}
 use Rattle.st_tree.specs.declared.headers.Target.TheVariants as target
 use Rattle.st_tree.specs.Symbols.{Sym}
 use Rattle.st_tree.specs.Grammar.{Tree, MethodTree, BodyTree, Production, AMethod, ABody, Derives, is_body, is_method}
-use Rattle.st_tree.specs.Headers.{production_of, Element, Says, Faulty, UnitOf, initializer, pool_initializer, program_initializer, method, class_method, Walk, Filled, Stuck, Short, judged, says_first, begins_version, by_row}
-use Rattle.st_tree.specs.Units.{element, first_element, TextIs, TextFault}
+use Rattle.st_tree.specs.Headers.{production_of, Element, Says, Faulty, UnitOf, initializer, pool_initializer, program_initializer, method, class_method, Walk, Filled, Stuck, Short, judged, begins_version}
+use Rattle.st_tree.specs.Units.{element, first_element, TextIs}
 use Rattle.st_parser.specs.Verdict.{Verdict, Good, Bad, verdict_of}
 use Rattle.st_parser.proofs.Verdicts.{Means, verdict_right, tree_found, fault_found}
 use Rattle.sif_elements.specs.declared.progress.Progress.{Progress}
 use Rattle.sif_elements.specs.declared.progress.Progress.TheVariants.{Start, Between, Awaiting}
 use Rattle.sif_elements.specs.Reading.{Answer, Read, Refuse, Takes, version, whole, header, annotation, text_of_header, Spoils, no_version, no_element, no_text, Answers, long_text, white_text, spoiled, taken, long_rest, long_input, unfinished, nothing_read, no_text_behind, all_read, is_whole, parts, Refuses, Reads}
-use Rattle.sif_elements.specs.Steps.{Step, Goes, Spoilt, kind_of, with_unit, behind_element, behind_tree, behind_text, step_of, behind_step, at_end, at_rest, answer_on, answer_of, reading}
+use Rattle.sif_elements.specs.Steps.{Step, Goes, Spoilt, kind_of, behind_element, behind_tree, behind_text, step_of, behind_step, at_end, answer_on, answer_of, reading}
 
 -- ---- one element
 
@@ -37,14 +36,14 @@ kind_found program_initializer = refl
 kind_found method = refl
 kind_found class_method = refl
 
-step_takes : {p q : Progress} {text : List ℕ} → Takes p text q → step_of p text ≡ Goes q
+pub step_takes : {p q : Progress} {text : List ℕ} → Takes p text q → step_of p text ≡ Goes q
 step_takes (version e) = ap (behind_element []) e
 step_takes (whole e) = ap (behind_element _) e
 step_takes (header e) = ap (behind_element _) e
 step_takes (annotation e) = ap (behind_element _) e
 step_takes (text_of_header t u) = ap (behind_text _ _) (tree_found t) ∙ ap (behind_tree _) (kind_found u)
 
-step_spoils : {p : Progress} {text : List ℕ} {byte : ℕ} {why : Reason} → Spoils p text byte why → step_of p text ≡ Spoilt byte why
+pub step_spoils : {p : Progress} {text : List ℕ} {byte : ℕ} {why : Reason} → Spoils p text byte why → step_of p text ≡ Spoilt byte why
 step_spoils (no_version e) = ap (behind_element []) e
 step_spoils (no_element e) = ap (behind_element _) e
 step_spoils (no_text f) = ap (behind_text _ _) (fault_found f)

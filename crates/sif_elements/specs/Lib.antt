@@ -5,3 +5,4 @@ pub mod Told
 pub mod Answered
 pub mod Turns
 pub mod Small
+pub mod Words

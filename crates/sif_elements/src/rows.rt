@@ -3,7 +3,7 @@ ghost use Rattle.std.specs.Prelude.{◌≡◌, map, IfOk};
 ghost use Rattle.st_tree.specs.Headers as headers;
 ghost use Rattle.sif_elements.specs.Places.{place_of};
 
-use crate::words::{is_name, is_text, string_value};
+use crate::words::{are_names, is_name, is_text, string_value};
 use st_base::{OutOfMemory, TokenKind};
 use st_tree::headers::Row;
 use st_tree::units::Indexed;
@@ -66,18 +66,32 @@ pub fn slots_of(row: Row) -> &'static [Slot]
     }
 }
 
-// Whether a token is a keyword.
-fn is_keyword(kind: TokenKind) -> bool
+/// Whether a token is a keyword.
+pub(crate) fn is_keyword(kind: TokenKind) -> bool
     ensures { result ≡ headers.is_keyword_kind kind }
 {
     matches!(kind, TokenKind::Keyword)
 }
 
-// Whether a token is an identifier.
-fn is_identifier(kind: TokenKind) -> bool
+/// Whether a token is an identifier.
+pub(crate) fn is_identifier(kind: TokenKind) -> bool
     ensures { result ≡ headers.is_identifier_kind kind }
 {
     matches!(kind, TokenKind::Identifier)
+}
+
+// Whether a token is a string.
+fn is_string(kind: TokenKind) -> bool
+    ensures { result ≡ headers.is_string_kind kind }
+{
+    matches!(kind, TokenKind::Str)
+}
+
+// Whether a token is a symbol.
+fn is_symbol(kind: TokenKind) -> bool
+    ensures { result ≡ headers.is_symbol_kind kind }
+{
+    matches!(kind, TokenKind::Symbol)
 }
 
 /// The way of indexing that a symbol names, with its `#`.
@@ -170,4 +184,32 @@ pub fn holds_name(alloc: Global, text: &[u8]) -> Result<bool, OutOfMemory>
 {
     let value = string_value(alloc, text)?;
     Ok(is_name(value.as_bytes()))
+}
+
+/// Whether a string, with its quotes, holds names, separated by white space, or nothing.
+pub fn holds_names(alloc: Global, text: &[u8]) -> Result<bool, OutOfMemory>
+    ensures { IfOk result (λ fits. fits ≡ headers.holds_names text.now) }
+{
+    let value = string_value(alloc, text)?;
+    are_names(alloc, value.as_bytes())
+}
+
+// Whether a symbol names a way of indexing.
+fn is_way(text: &[u8]) -> bool
+    ensures { result ≡ headers.is_some_way (headers.way_of text.now) }
+{
+    way_of(text).is_some()
+}
+
+/// Whether a token of this kind with this text may stand at a place.
+pub fn fits(alloc: Global, slot: Slot, kind: TokenKind, text: &[u8]) -> Result<bool, OutOfMemory>
+    ensures { IfOk result (λ fits. fits ≡ headers.fits (place_of slot) kind text.now) }
+{
+    match slot {
+        Slot::Word(word) => Ok(is_keyword(kind) && is_text(text, word)),
+        Slot::AnyString => Ok(is_string(kind)),
+        Slot::NameString => Ok(is_string(kind) && holds_name(alloc, text)?),
+        Slot::NamesString => Ok(is_string(kind) && holds_names(alloc, text)?),
+        Slot::Way => Ok(is_symbol(kind) && is_way(text)),
+    }
 }

@@ -2,10 +2,12 @@
 ghost use Rattle.std.specs.Prelude.{◌≡◌, ℕ, ◌-◌, List, ◌∷◌, ◌++◌, drop, take, length, IfOk};
 ghost use Rattle.std.specs.List.{list_all};
 ghost use Rattle.std.specs.Str.{bytes_eq};
-ghost use Rattle.st_base.specs.TokenBytes.{is_letter, is_word_byte};
+ghost use Rattle.st_base.specs.TokenBytes.{is_letter, is_word_byte, is_white_byte};
 ghost use Rattle.st_tree.specs.Symbols.{text_of, unquoted, string_value};
-ghost use Rattle.st_tree.specs.Headers.{is_reserved, is_identifier, is_name};
+ghost use Rattle.st_tree.specs.Headers.{is_reserved, is_identifier, is_name, words_behind, words_of, are_names};
+ghost use Rattle.sif_elements.specs.Words.{in_front};
 
+use sqlite_items::Items;
 use st_base::{OutOfMemory, Text, Token};
 use std::alloc::Global;
 
@@ -107,4 +109,59 @@ pub fn string_value(alloc: Global, text: &[u8]) -> Result<Text, OutOfMemory>
         skips = keep_byte(&mut bytes, skips, *byte)?;
     }
     Ok(Text::from_bytes(alloc, &bytes)?)
+}
+
+// Tab, line feed, form feed, carriage return or space.
+fn is_white_byte(byte: u8) -> bool
+    ensures { result ≡ is_white_byte byte }
+{
+    matches!(byte, 9 | 10 | 12 | 13 | 32)
+}
+
+// Takes a byte into a word, or ends the word where white space begins, and says whether the byte
+// is white space.
+fn take_into_words(
+    alloc: Global,
+    words: &mut Items<Text>,
+    word: &mut Vec<u8>,
+    white: bool,
+    byte: u8,
+) -> Result<bool, OutOfMemory>
+    ensures { IfOk result (λ w. (more : List ℕ) → words.new ++ in_front word.new.items (words_behind w more) ≡ words.old ++ in_front word.old.items (words_behind white (byte ∷ more))) }
+{
+    if !is_white_byte(byte) {
+        word.push(byte)?;
+        return Ok(false);
+    }
+    if !white {
+        words.push(Text::from_bytes(alloc, word.as_slice())?)?;
+        word.clear();
+    }
+    Ok(true)
+}
+
+/// The words between runs of white space, in their order. An empty text has none. Where white space
+/// stands at an end, an empty word does.
+pub fn words_of(alloc: Global, bytes: &[u8]) -> Result<Items<Text>, OutOfMemory>
+    ensures { IfOk result (λ words. words ≡ words_of bytes.now) }
+{
+    let mut words = Items::new(alloc);
+    if bytes.is_empty() {
+        return Ok(words);
+    }
+    let mut word = Vec::new(alloc);
+    let mut white = false;
+    for byte in bytes {
+        white = take_into_words(alloc, &mut words, &mut word, white, *byte)?;
+    }
+    words.push(Text::from_bytes(alloc, word.as_slice())?)?;
+    Ok(words)
+}
+
+/// Whether it is names, separated by white space, or nothing.
+pub fn are_names(alloc: Global, bytes: &[u8]) -> Result<bool, OutOfMemory>
+    ensures { IfOk result (λ all. all ≡ are_names bytes.now) }
+{
+    let words = words_of(alloc, bytes)?;
+    Ok(words.as_slice().iter().all(|word| is_name(word.as_bytes())))
 }

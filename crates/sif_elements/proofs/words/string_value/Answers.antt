@@ -1,4 +1,4 @@
-use Rattle.std.proofs.Common.{◌≡◌, ◌∙◌, arith}
+use Rattle.std.proofs.Common.{◌∙◌, arith}
 use Rattle.sif_elements.proofs.WordLemmas.{string_done}
 use Rattle.sif_elements.proofs.words.string_value.Goals as goal
 
