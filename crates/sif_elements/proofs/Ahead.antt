@@ -1,5 +1,5 @@
 -- What is answered of a file, from one answer of the reader to the next.
-use Rattle.std.proofs.Common.{◌≡◌, ◌≢◌, ◌+◌, ◌-◌, ℕ, Bool, true, false, not, List, [], ◌∷◌, ◌++◌, take, length, Option, None, Some, IfSome, refl, ap, sym, ◌∙◌, subst, arith, ltb, if◌then◌else◌}
+use Rattle.std.proofs.Common.{◌≡◌, ◌≢◌, ◌+◌, ℕ, Bool, true, false, not, List, [], ◌∷◌, ◌++◌, take, length, Option, None, Some, IfSome, refl, ap, sym, ◌∙◌, subst, arith, ltb, if◌then◌else◌}
 use borrow.Author.Tests.{ltb-true}
 use Rattle.std.specs.Option.{option_map}
 use Rattle.std.proofs.lemmas.List.{length-take}
@@ -219,6 +219,13 @@ read_at_end p next.Unfinished us n text is = absurd (let k : Ends (Read us) ≡ 
 read_at_end p next.TooLong us n text is = absurd (let k : Ends (Read us) ≡ Ends (Refuse _ _ _) = is in cc)
 read_at_end p next.InputTooLong us n text is = absurd (let k : Ends (Read us) ≡ Ends (Refuse _ _ _) = is in cc)
 read_at_end p next.ReadFault us n text is = absurd (let k : Ends (Read us) ≡ Fails = is in cc)
+
+-- units are read only between elements
+pub if_between : (P : List Unit → Type 0) (p : Progress) (answer : Next) (result : ReadAnswer) (n : ℕ) (text : List ℕ) → IfSome (made (turned.Ends result)) (λ turn. turn ≡ turn_of p answer n text) → ((us : List Unit) → p ≡ Between us → P us) → IfRead result P
+if_between P p answer (outcome.Read d) n text is holds = holds d.units (read_at_end p answer d.units n text is).1
+if_between P p answer (outcome.Refused place why) n text is holds = tt
+if_between P p answer outcome.ReadFault n text is holds = tt
+if_between P p answer outcome.OutOfMemory n text is holds = tt
 
 -- what holds of the units so far holds of those that were read
 pub if_read : (P : List Unit → Type 0) (p : Progress) (answer : Next) (result : ReadAnswer) (n : ℕ) (text : List ℕ) → IfSome (made (turned.Ends result)) (λ turn. turn ≡ turn_of p answer n text) → P (units_of p) → IfRead result P

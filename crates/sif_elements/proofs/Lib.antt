@@ -1,7 +1,14 @@
 mod Only
-pub mod StepLemmas
 mod Ahead
 mod TakenLemmas
 mod Counts
 mod Weighing
+mod Weighed
+mod Paid
+mod TreeSizes
+mod HeaderSizes
+mod Sized
+mod Readable
+mod TextBytes
+pub mod StepLemmas
 pub mod WordLemmas

@@ -1,5 +1,5 @@
 -- What the bytes that were taken settle, from one answer of the reader to the next.
-use Rattle.std.proofs.Common.{◌≡◌, ◌⊎◌, inl, inr, ◌+◌, ◌-◌, ◌≤◌, ℕ, Bool, true, false, List, [], ◌∷◌, ◌++◌, take, length, Option, None, Some, IfSome, refl, ap, sym, ◌∙◌, subst, arith, append_assoc, if◌then◌else◌}
+use Rattle.std.proofs.Common.{◌≡◌, ◌⊎◌, inl, inr, ◌+◌, ◌-◌, ◌≤◌, ℕ, Bool, false, List, [], ◌∷◌, ◌++◌, take, length, Option, None, Some, IfSome, refl, ap, sym, ◌∙◌, subst, arith, append_assoc}
 use Rattle.std.specs.Option.{option_map}
 use Rattle.std.specs.Io.KnownBytes.{prepend_known}
 use Rattle.std.proofs.lemmas.List.{append-nil, length-append, take_all}
@@ -16,7 +16,6 @@ use Rattle.st_base.specs.declared.faults.Reason.TheVariants.{InputTooLong}
 use Rattle.sif_elements.specs.declared.progress.Progress.{Progress}
 use Rattle.sif_elements.specs.declared.progress.Progress.TheVariants.{Start}
 use Rattle.sif_elements.specs.Reading.{Answer, Refuse, Refuses}
-use Rattle.sif_elements.specs.Steps.{answer_on}
 use Rattle.sif_elements.specs.Turns.{Turn, Onward, turn_of}
 use Rattle.sif_elements.specs.Answered.{Took, LeavesOpen}
 use Rattle.sif_elements.proofs.Only.{answers_made}

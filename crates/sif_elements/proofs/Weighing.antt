@@ -1,21 +1,23 @@
 -- What the parts of a tree weigh, each by its own parts.
-use Rattle.std.proofs.Common.{◌≡◌, ℕ, ◌+◌, List, [], ◌∷◌, map, refl, ap, sym, ◌∙◌, true, false, Bool}
-use Rattle.std.specs.Prelude.{sum}
+use Rattle.std.proofs.Common.{◌≡◌, ℕ, ◌+◌, List, ap, sym, ◌∙◌, true, false, Bool, ℤ}
 use Rattle.std.specs.List.{sum_by}
 use Rattle.std.proofs.lemmas.List.Sums.{sum-map}
 use Rattle.st_tree.specs.declared.tree.Name.{Name}
 use Rattle.st_tree.specs.declared.tree.Literal.{Literal, fold-roll-Literal}
 use Rattle.st_tree.specs.declared.tree.Literal.TheVariants as literal
+use Rattle.st_tree.specs.declared.tree.Literal.TheOpen.{Literal-F}
 use Rattle.st_tree.specs.declared.tree.Primary.{Primary}
+use Rattle.st_tree.specs.declared.tree.Primary.TheOpen.{Primary-F, Statement-F}
+use Rattle.st_tree.specs.declared.tree.Statement.TheVariants as statement
 use Rattle.st_tree.specs.declared.tree.Primary.TheVariants as primary
-use Rattle.st_tree.specs.declared.tree.Primary.TheFolds.{fold-Primary, fold-Statement, fold-Block, fold-Body, fold-Expr, fold-Message, fold-Operand, fold-roll-Primary, fold-roll-Statement, fold-roll-Block, fold-roll-Body, fold-roll-Expr, fold-roll-Message, fold-roll-Operand}
+use Rattle.st_tree.specs.declared.tree.Primary.TheFolds.{fold-Primary, fold-Statement, fold-Block, fold-Expr, fold-Message, fold-Operand, fold-roll-Primary, fold-roll-Statement, fold-roll-Block, fold-roll-Body, fold-roll-Expr, fold-roll-Message, fold-roll-Operand}
 use Rattle.st_tree.specs.declared.tree.Statement.{Statement}
-use Rattle.st_tree.specs.declared.tree.Block.{Block}
+use Rattle.st_tree.specs.declared.tree.Block.{Block, roll-Block}
 use Rattle.st_tree.specs.declared.tree.Body.{Body}
 use Rattle.st_tree.specs.declared.tree.Expr.{Expr}
 use Rattle.st_tree.specs.declared.tree.Message.{Message}
 use Rattle.st_tree.specs.declared.tree.Operand.{Operand}
-use Rattle.st_tree.specs.Trees.{name, variable, integer, negative, array, constant, message, operand, expr, body, paren, block, stated}
+use Rattle.st_tree.specs.Trees.{variable, array, constant, message, operand, expr, body, paren, block, stated}
 use Rattle.sif_elements.specs.Small.{Weights, text_size, literal_layer, literal_size, primary_weight, statement_weight, names_weight, block_weight, layer_weight, expr_weight, message_weight, operand_weight, body_weight}
 
 unfoldable pub primary_in : Weights → Primary → ℕ
@@ -53,23 +55,72 @@ unfolding body_weight statement_in body
 body_weighs w ts ss = fold-roll-Body ℕ ℕ ℕ ℕ ℕ ℕ ℕ (primary_weight w) (statement_weight w) (block_weight w) (layer_weight w) (expr_weight w) (message_weight w) operand_weight (record { temporaries = ts; statements = ss }) ∙ ap (λ (n : ℕ). names_weight w ts + n) (sum-map (statement_in w) ss)
 
 pub stated_weighs : (w : Weights) (b : Bool) (e : Expr) → statement_in w (stated b e) ≡ w.statement + expr_in w e
-stated_weighs w true e = ?
-stated_weighs w false e = ?
+unfolding statement_in expr_in
+stated_weighs w true e = ap (statement_in w) (sym (statement.rolls-Return e)) ∙ fold-roll-Statement ℕ ℕ ℕ ℕ ℕ ℕ ℕ (primary_weight w) (statement_weight w) (block_weight w) (layer_weight w) (expr_weight w) (message_weight w) operand_weight (Statement-F.Return e)
+stated_weighs w false e = ap (statement_in w) (sym (statement.rolls-Value e)) ∙ fold-roll-Statement ℕ ℕ ℕ ℕ ℕ ℕ ℕ (primary_weight w) (statement_weight w) (block_weight w) (layer_weight w) (expr_weight w) (message_weight w) operand_weight (Statement-F.Value e)
 
 pub variable_weighs : (w : Weights) (n : Name) → primary_in w (variable n) ≡ w.variable + w.text n.text
-variable_weighs w n = ?
+unfolding primary_in
+variable_weighs w n = ap (primary_in w) (sym (primary.rolls-Variable n)) ∙ fold-roll-Primary ℕ ℕ ℕ ℕ ℕ ℕ ℕ (primary_weight w) (statement_weight w) (block_weight w) (layer_weight w) (expr_weight w) (message_weight w) operand_weight (Primary-F.Variable n)
 
 pub self_weighs : (w : Weights) → primary_in w primary.SelfValue ≡ w.reserved
-self_weighs w = ?
+unfolding primary_in
+self_weighs w = ap (primary_in w) (sym primary.rolls-SelfValue) ∙ fold-roll-Primary ℕ ℕ ℕ ℕ ℕ ℕ ℕ (primary_weight w) (statement_weight w) (block_weight w) (layer_weight w) (expr_weight w) (message_weight w) operand_weight Primary-F.SelfValue
 
 pub super_weighs : (w : Weights) → primary_in w primary.SuperValue ≡ w.reserved
-super_weighs w = ?
+unfolding primary_in
+super_weighs w = ap (primary_in w) (sym primary.rolls-SuperValue) ∙ fold-roll-Primary ℕ ℕ ℕ ℕ ℕ ℕ ℕ (primary_weight w) (statement_weight w) (block_weight w) (layer_weight w) (expr_weight w) (message_weight w) operand_weight Primary-F.SuperValue
 
 pub constant_weighs : (w : Weights) (l : Literal) → primary_in w (constant l) ≡ w.literal l
-constant_weighs w l = ?
+unfolding primary_in
+constant_weighs w l = ap (primary_in w) (sym (primary.rolls-Literal l)) ∙ fold-roll-Primary ℕ ℕ ℕ ℕ ℕ ℕ ℕ (primary_weight w) (statement_weight w) (block_weight w) (layer_weight w) (expr_weight w) (message_weight w) operand_weight (Primary-F.Literal l)
 
 pub paren_weighs : (w : Weights) (e : Expr) → primary_in w (paren e) ≡ expr_in w e
-paren_weighs w e = ?
+unfolding primary_in expr_in paren
+paren_weighs w e = ap (primary_in w) (sym (primary.rolls-Paren e)) ∙ fold-roll-Primary ℕ ℕ ℕ ℕ ℕ ℕ ℕ (primary_weight w) (statement_weight w) (block_weight w) (layer_weight w) (expr_weight w) (message_weight w) operand_weight (Primary-F.Paren e)
+
+layer_weighs : (w : Weights) (at : ℕ) (ns : List Name) (b : Body) → block_in w (roll-Block (record { at = at; parameters = ns; body = b })) ≡ w.block + names_weight w ns + body_weight w b
+unfolding block_in body_weight
+layer_weighs w at ns b = fold-roll-Block ℕ ℕ ℕ ℕ ℕ ℕ ℕ (primary_weight w) (statement_weight w) (block_weight w) (layer_weight w) (expr_weight w) (message_weight w) operand_weight (record { at = at; parameters = ns; body = b })
+
+inner_block : (w : Weights) (b : Block) → primary_in w (primary.Block b) ≡ block_in w b
+unfolding primary_in block_in
+inner_block w b = ap (primary_in w) (sym (primary.rolls-Block b)) ∙ fold-roll-Primary ℕ ℕ ℕ ℕ ℕ ℕ ℕ (primary_weight w) (statement_weight w) (block_weight w) (layer_weight w) (expr_weight w) (message_weight w) operand_weight (Primary-F.Block b)
 
 pub block_weighs : (w : Weights) (at : ℕ) (ns ts : List Name) (ss : List Statement) → primary_in w (block at ns ts ss) ≡ w.block + names_weight w ns + (names_weight w ts + sum_by (statement_in w) ss)
-block_weighs w at ns ts ss = ?
+unfolding block
+block_weighs w at ns ts ss = inner_block w _ ∙ layer_weighs w at ns (body ts ss) ∙ ap (λ (n : ℕ). w.block + names_weight w ns + n) (body_weighs w ts ss)
+
+-- ---- literals
+
+pub array_size : (ls : List Literal) → literal_size (array ls) ≡ sum_by literal_size ls + 1
+unfolding literal_size array
+array_size ls = ap literal_size (sym (literal.rolls-Array ls)) ∙ fold-roll-Literal ℕ literal_layer (Literal-F.Array ls) ∙ ap (λ (n : ℕ). n + 1) (sum-map literal_size ls)
+
+pub symbol_size : (t : List ℕ) → literal_size (literal.Symbol t) ≡ text_size t
+unfolding literal_size
+symbol_size t = ap literal_size (sym (literal.rolls-Symbol t)) ∙ fold-roll-Literal ℕ literal_layer (Literal-F.Symbol t)
+
+pub str_size : (t : List ℕ) → literal_size (literal.Str t) ≡ text_size t
+unfolding literal_size
+str_size t = ap literal_size (sym (literal.rolls-Str t)) ∙ fold-roll-Literal ℕ literal_layer (Literal-F.Str t)
+
+pub integer_size : (n : ℤ) → literal_size (literal.Integer n) ≡ 1
+unfolding literal_size
+integer_size n = ap literal_size (sym (literal.rolls-Integer n)) ∙ fold-roll-Literal ℕ literal_layer (Literal-F.Integer n)
+
+pub character_size : (b : ℕ) → literal_size (literal.Character b) ≡ 1
+unfolding literal_size
+character_size b = ap literal_size (sym (literal.rolls-Character b)) ∙ fold-roll-Literal ℕ literal_layer (Literal-F.Character b)
+
+pub nil_size : literal_size literal.Nil ≡ 1
+unfolding literal_size
+nil_size = ap literal_size (sym literal.rolls-Nil) ∙ fold-roll-Literal ℕ literal_layer Literal-F.Nil
+
+pub true_size : literal_size literal.True ≡ 1
+unfolding literal_size
+true_size = ap literal_size (sym literal.rolls-True) ∙ fold-roll-Literal ℕ literal_layer Literal-F.True
+
+pub false_size : literal_size literal.False ≡ 1
+unfolding literal_size
+false_size = ap literal_size (sym literal.rolls-False) ∙ fold-roll-Literal ℕ literal_layer Literal-F.False

@@ -2,7 +2,7 @@ pub mod Places
 pub mod Reading
 pub mod Steps
 pub mod Told
-pub mod Words
 pub mod Answered
 pub mod Turns
 pub mod Small
+pub mod Words

@@ -5,6 +5,7 @@ ghost use Rattle.st_tree.specs.Numbers.{elements_in};
 ghost use Rattle.sif_elements.specs.Steps.{reading, step_of, at_end};
 ghost use Rattle.sif_elements.specs.Turns.{turn_of, turn_behind, made, Ends};
 ghost use Rattle.sif_elements.specs.Answered.{said, IfRead, Took, LeavesOpen};
+ghost use Rattle.sif_elements.specs.Small.{IsSmall};
 
 use crate::progress::{Progress, Stepped, step};
 use sif_chunks::{ChunkReader, Next};
@@ -68,6 +69,7 @@ fn take_element(alloc: Global, progress: Progress, number: u32, text: &[u8]) -> 
 // Goes where an answer of the reader leads.
 fn turn(alloc: Global, progress: Progress, next: Next, reader: &ChunkReader) -> Turned
     ensures made { IfSome (made result) (λ turn. turn ≡ turn_of progress next reader.now.number reader.now.text) }
+    ensures short { next ≡ Next.Element → length reader.now.text ≤ 1048576 }
     ensures fault { next ≡ Next.ReadFault → result ≡ Turned.Ends ReadAnswer.ReadFault }
 {
     let place = reader.place();
@@ -88,8 +90,9 @@ pub fn read_definition<S: Source>(alloc: Global, source: &mut S) -> ReadAnswer
     ensures told { IfSome (S.left source.old) (λ file. IfSome (said result) (λ answer. reading file ≡ answer)) }
     ensures ended { IfRead result (λ units. IfSome (S.left source.new) (λ bytes. bytes ≡ [])) }
     ensures few { IfRead result (λ units. elements_in units < 2 ^ 32 - 1) }
+    ensures small { IfRead result IsSmall }
     ensures took { Took (S.left source.old) (S.left source.new) }
-    ensures open { result ≡ ReadAnswer.ReadFault → IfSome (S.left source.old) (λ file. LeavesOpen file (S.left source.new)) }
+    ensures unsettled { result ≡ ReadAnswer.ReadFault → IfSome (S.left source.old) (λ file. LeavesOpen file (S.left source.new)) }
     ensures kept { result ≢ ReadAnswer.ReadFault → S.faults source.new ≡ S.faults source.old }
     ensures failed { result ≡ ReadAnswer.ReadFault → Rose (S.faults source.old) (S.faults source.new) }
 {

@@ -5,7 +5,7 @@ use sqlite_items::Items;
 use st_base::{OutOfMemory, Reason, Text};
 use st_lexer::tokens;
 use st_tree::headers::{Header, Target};
-use st_tree::units::{ClassUnit, Indexed, UnitKind};
+use st_tree::units::{ClassUnit, Indexed, Unit, UnitKind};
 use std::alloc::Global;
 use std::process::Abort;
 use std::test::Fail;
@@ -273,6 +273,24 @@ fn stepped(rt: &impl Abort, alloc: Global, texts: &[&[u8]]) -> Result<Stepped, F
     Ok(Stepped::Goes(progress))
 }
 
+fn say_annotated(out: &mut Vec<u8>, unit: &Unit) -> Result<(), OutOfMemory> {
+    say_unit(out, &unit.kind)?;
+    for annotation in unit.annotations.as_slice() {
+        say_three(out, b"with", &annotation.key, &annotation.value)?;
+    }
+    Ok(())
+}
+
+// The units that are read, where no element has a fault and no header awaits its text.
+fn say_stepped(out: &mut Vec<u8>, stepped: &Stepped) -> Result<(), OutOfMemory> {
+    if let Stepped::Goes(Progress::Between(units)) = stepped {
+        for unit in units.as_slice() {
+            say_annotated(out, unit)?;
+        }
+    }
+    Ok(())
+}
+
 #[test]
 fn elements_become_units_with_their_annotations(rt: HostRuntime) -> Result<(), Fail> {
     let texts: [&[u8]; 11] = [
@@ -289,17 +307,7 @@ fn elements_become_units_with_their_annotations(rt: HostRuntime) -> Result<(), F
         b"\"c\"",
     ];
     let mut out = Vec::new(rt.alloc());
-    match stepped(&rt, rt.alloc(), &texts)? {
-        Stepped::Goes(Progress::Between(units)) => {
-            for unit in units.as_slice() {
-                say_unit(&mut out, &unit.kind)?;
-                for annotation in unit.annotations.as_slice() {
-                    say_three(&mut out, b"with", &annotation.key, &annotation.value)?;
-                }
-            }
-        }
-        _ => {}
-    }
+    say_stepped(&mut out, &stepped(&rt, rt.alloc(), &texts)?)?;
     let wanted: &[u8] =
         b"version 1.0 with k v method A at: class method A new with k v with l w pool initializer P x ( c ) ";
     assert!(rt; out.as_slice() == wanted);

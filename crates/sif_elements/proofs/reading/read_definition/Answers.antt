@@ -1,13 +1,17 @@
 -- The turns of reading, one after another.
-use Rattle.std.proofs.Common.{◌≡◌, ◌≢◌, ◌∙◌, ◌+◌, ◌-◌, ◌*◌, ◌^◌, ◌<◌, ◌≤◌, [], List, ℕ, true, None, Some, IfSome, refl, sym, ap, arith, rules}
-use Rattle.sif_chunks.specs.Reading.{judged, max_input}
+use Rattle.std.proofs.Common.{◌≡◌, ◌∙◌, ◌+◌, ◌-◌, ◌^◌, ◌<◌, List, refl, sym, subst, arith}
+use Rattle.sif_chunks.specs.Reading.{judged}
 use Rattle.sif_chunks.specs.declared.next.Next.TheVariants as next
 use Rattle.st_tree.specs.Numbers.{elements_in}
 use Rattle.st_tree.specs.declared.units.Unit.{Unit}
+use Rattle.sif_elements.specs.declared.progress.Progress.{Progress}
+use Rattle.sif_elements.specs.Small.{IsSmall}
 use Rattle.sif_elements.specs.Turns.{Onward, turn_of}
 use Rattle.sif_elements.proofs.Only.{takes_of}
-use Rattle.sif_elements.proofs.Ahead.{IsBefore-new, IsBefore-given, at_start, at_answer, after_element, answered, turn_goes, step_goes, fault_fails, no_fault, if_read, if_ended}
-use Rattle.sif_elements.proofs.TakenLemmas.{taken_at_start, taken_on, counted_at_start, counted_on, took, nothing_taken, fault_leaves_open}
+use Rattle.sif_elements.proofs.Ahead.{IsBefore-new, IsBefore-given, at_start, at_answer, after_element, answered, turn_goes, step_goes, fault_fails, no_fault, if_read, if_ended, if_between}
+use Rattle.sif_elements.proofs.TakenLemmas.{taken_at_start, taken_on, counted_at_start, counted_on, took, fault_leaves_open}
+use Rattle.sif_elements.proofs.TextBytes.{text_judged}
+use Rattle.sif_elements.proofs.Sized.{IsSized, sized_at_start, sized_more, small_between}
 use Rattle.sif_elements.proofs.Counts.{few_more}
 use Rattle.sif_elements.proofs.reading.read_definition.Goals as goal
 
@@ -17,6 +21,8 @@ loop-after-init g c = rw c.in-Ok.ensures record {
   counted = counted_at_start (g.S.Source.left c.args.source.now);
   faults = refl;
   bound = omega arith;
+  held = omega arith;
+  sized = sized_at_start;
   few = omega arith;
 }
 
@@ -38,8 +44,10 @@ loop-after-preserved g c =
     let begun = c.loop-after.invariant.ahead.1 in
     let turns : Onward q ≡ turn_of p c.next-next.result new.number new.text = c.in-Goes.ensures.made in
     let element : c.next-next.result ≡ next.Element = turn_goes p q c.next-next.result new.number new.text turns in
-    let few = few_more (takes_of p new.text q (step_goes p q c.next-next.result new.number new.text turns)) in
+    let takes = takes_of p new.text q (step_goes p q c.next-next.result new.number new.text turns) in
+    let few = few_more takes in
     let moved = c.next-next.ensures.progress begun.live element in
+    let bytes = text_judged n old new before after begun (rw element at c.next-next.ensures.settled) c.loop-after.invariant.held in
     record {
       ahead = (
         new.number + 1,
@@ -50,6 +58,8 @@ loop-after-preserved g c =
       counted = counted_on c.next-next.result old new first before after c.next-next.ensures.settled c.loop-after.invariant.counted;
       faults = c.next-next.ensures.kept (λ fault. let k : next.Element ≡ next.ReadFault = sym element ∙ fault in cc) ∙ c.loop-after.invariant.faults;
       bound = c.next-next.ensures.bound;
+      held = bytes.0;
+      sized = sized_more (judged old) (judged new) (c.in-Goes.ensures.short element) takes moved bytes.1 c.loop-after.invariant.sized;
       few = omega (arith, few, moved, c.loop-after.invariant.few);
     }
 
@@ -71,8 +81,8 @@ returns-in-Ends-clause-took g c =
     took c.next-next.new.self (g.S.Source.left c.args.source.now) (g.S.Source.left c.next-next.new.source) c.next-next.ensures.most
     (counted_on c.next-next.result c.loop-after.reader c.next-next.new.self (g.S.Source.left c.args.source.now) (g.S.Source.left c.loop-after.source) (g.S.Source.left c.next-next.new.source) c.next-next.ensures.settled c.loop-after.invariant.counted)
 
-pub returns-in-Ends-clause-open : goal.returns-in-Ends-clause-open
-returns-in-Ends-clause-open g c = λ fault.
+pub returns-in-Ends-clause-unsettled : goal.returns-in-Ends-clause-unsettled
+returns-in-Ends-clause-unsettled g c = λ fault.
     let fails = fault_fails c.loop-after.progress c.next-next.result c.in-Ends.answer c.next-next.new.self.number c.next-next.new.self.text c.in-Ends.ensures.made fault in
     fault_leaves_open c.loop-after.progress c.loop-after.invariant.ahead.0 c.loop-after.reader c.next-next.new.self (g.S.Source.left c.args.source.now) (g.S.Source.left c.loop-after.source) (g.S.Source.left c.next-next.new.source) c.loop-after.invariant.ahead.1 (rw fails at c.next-next.ensures.settled) (c.next-next.ensures.input (rw fails at c.next-next.ensures.stop)) c.loop-after.invariant.ahead.3
 
@@ -84,3 +94,8 @@ pub returns-in-Ends-clause-failed : goal.returns-in-Ends-clause-failed
 returns-in-Ends-clause-failed g c = λ fault.
     let fails = fault_fails c.loop-after.progress c.next-next.result c.in-Ends.answer c.next-next.new.self.number c.next-next.new.self.text c.in-Ends.ensures.made fault in
     rw (← c.loop-after.invariant.faults) (c.next-next.ensures.failed fails)
+
+pub returns-in-Ends-clause-small : goal.returns-in-Ends-clause-small
+returns-in-Ends-clause-small g c =
+    if_between IsSmall c.loop-after.progress c.next-next.result c.in-Ends.answer c.next-next.new.self.number c.next-next.new.self.text c.in-Ends.ensures.made
+    (λ us is. small_between us (judged c.loop-after.reader) c.loop-after.invariant.bound (subst (λ (p : Progress). IsSized p (judged c.loop-after.reader)) is c.loop-after.invariant.sized))

@@ -1,8 +1,10 @@
-use Rattle.std.proofs.Common.{◌≡◌, ◌+◌, ◌-◌, ◌*◌, ◌≤◌, ℕ, List, IfSome}
+use Rattle.std.proofs.Common.{◌≡◌, ◌-◌, ◌*◌, ◌≤◌, ℕ, IfSome}
 use Rattle.sif_chunks.specs.Reading.{judged, max_input}
 use Rattle.st_tree.specs.Numbers.{elements_in}
 use Rattle.sif_elements.proofs.Ahead.{IsBefore, Follows, answer_ahead}
 use Rattle.sif_elements.proofs.TakenLemmas.{TakenSoFar, Counted}
+use Rattle.sif_elements.proofs.TextBytes.{HoldsTaken}
+use Rattle.sif_elements.proofs.Sized.{IsSized}
 use Rattle.sif_elements.proofs.Counts.{units_of}
 use Rattle.sif_elements.proofs.reading.read_definition.Given as goal
 
@@ -13,6 +15,8 @@ invariant-loop-after g l = record {
   counted : Counted (g.S.Source.left l.fn.source) (g.S.Source.left l.source) l.reader;
   faults : g.S.Source.faults l.source ≡ g.S.Source.faults l.fn.source;
   bound : judged l.reader ≤ max_input;
+  held : HoldsTaken l.reader;
+  sized : IsSized l.progress (judged l.reader);
   few : elements_in (units_of l.progress) ≤ 2 * judged l.reader;
 }
 
