@@ -1,18 +1,33 @@
 -- What the program is to do for its words and for the bytes of its input.
-use Rattle.std.specs.Prelude.{◌≡◌, ℕ, List, [], ◌∷◌, ◌++◌, Option, None, Some, IfSome, codes, decimal, if◌then◌else◌}
-use Rattle.std.specs.Str.{bytes_eq}
+use Rattle.std.specs.Prelude.{◌≡◌, ℕ, Bool, true, false, List, [], ◌∷◌, ◌++◌, Option, None, Some, IfSome, codes, decimal, if◌then◌else◌}
 use Rattle.st_base.specs.declared.faults.Place.{Place}
 use Rattle.st_base.specs.declared.faults.Reason.{Reason}
 use Rattle.st_base.specs.declared.faults.Reason.TheVariants.{MissingVersion, MissingText, Unfinished, ElementTooLong, InputTooLong, BadCharacter, OpenString, OpenComment, BadRadix, IntegerTooLarge, FloatOutside, Syntax, TooDeep, Unbuilt, DuplicateClass, DuplicateName, UnknownSuperclass, IndexedClash, DuplicateVariable, UnknownPool, UnknownClass, ReplacesBuiltin, DuplicateMethod, UnknownTarget, SecondInitializer, UndeclaredName, NotAssignable}
-use Rattle.st_run.specs.Reading.{Verdict, verdict, refusal_of, shown_by}
+use Rattle.st_tree.specs.declared.units.Unit as unit
+use Rattle.sif_elements.specs.Reading.{Answer, Read, Refuse}
+use Rattle.sif_elements.specs.Steps.{reading}
+use Rattle.st_words.specs.CommandLine as words
+use Rattle.st_words.specs.declared.command.Task.{Task}
+use Rattle.st_words.specs.declared.command.Task.TheVariants as task
+use Rattle.st_words.specs.declared.command.Command.{Command}
+use Rattle.st_answers.specs.Listing.{ok_line, listing}
+use Rattle.st_answers.specs.Shows.{Program, Shows, UnbuiltAt, program_of}
 
-pub data Command : Type 0 where
-  run : Command
+-- the tasks that the program does today
+abbrev pub is_there : Task → Bool
+is_there task.Run = true
+is_there task.Check = true
+is_there task.List = true
+is_there task.Export = false
+is_there task.Gen = false
+
+abbrev pub if_there : Option Command → Option Command
+if_there None = None
+if_there (Some c) = if is_there c.task then Some c else None
 
 -- the command that the words give
 abbrev pub command_of : List (List ℕ) → Option Command
-command_of (word ∷ []) = if bytes_eq word (codes "run") then Some run else None
-command_of words = None
+command_of given = if_there (words.command_of given)
 
 -- the word of a reason
 abbrev pub reason_word : Reason → List ℕ
@@ -64,25 +79,59 @@ pub record Outcome : Type 0 where
   pub report : List ℕ
   pub status : ℕ
 
-abbrev pub outcome_of : List ℕ → Option (Place × Reason) → Outcome
-outcome_of shown None = record { output = shown; report = []; status = 0 }
-outcome_of shown (Some refusal) = record { output = []; report = refused_line refusal.0 refusal.1; status = 1 }
+abbrev pub done : List ℕ → Outcome
+done output = record { output = output; report = []; status = 0 }
+
+abbrev pub refused : Place → Reason → Outcome
+refused place why = record { output = []; report = refused_line place why; status = 1 }
+
+abbrev pub place_at : ℕ → ℕ → Place
+place_at element byte = record { element = element; byte = byte }
+
+-- a program is run, or refused where it can't yet be
+abbrev pub runs : Program → Outcome
+runs (Shows out) = done out
+runs (UnbuiltAt element) = refused (place_at element 0) Unbuilt
+
+-- what a task makes of the units of a file
+abbrev pub of_units : Task → List unit.Unit → Outcome
+of_units task.Run us = runs (program_of us)
+of_units task.Check us = done (ok_line us)
+of_units task.List us = done (listing us)
+of_units task.Export us = done []
+of_units task.Gen us = done []
+
+-- the file is read, and refused at its first faulty element
+abbrev pub of_answer : Task → Answer → Outcome
+of_answer t (Refuse element byte why) = refused (place_at element byte) why
+of_answer t (Read us) = of_units t us
 
 -- what the program does for a command, or for words that are none, and an input
 abbrev pub does : Option Command → List ℕ → Outcome
 does None bytes = record { output = []; report = usage_line; status = 2 }
-does (Some run) bytes = outcome_of (shown_by (verdict bytes).program) (refusal_of (verdict bytes))
+does (Some c) bytes = of_answer c.task (reading bytes)
 
 -- for each command that reads, where its source tells its bytes; and for words that are no command
 abbrev pub ForBytes : Option Command → Option (List ℕ) → (Outcome → Type 0) → Type 0
 ForBytes None left P = P (does None [])
-ForBytes (Some command) left P = IfSome left (λ bytes. P (does (Some command) bytes))
+ForBytes (Some c) left P = IfSome left (λ bytes. P (does (Some c) bytes))
 
--- the words are a command that reads its input
+-- the words are a command, which reads its input
 abbrev pub Reads : Option Command → Type 0
 Reads None = ⊥
-Reads (Some command) = Unit {0}
+Reads (Some c) = Unit {0}
 
--- nothing in an input is refused
-abbrev pub IsValid : List ℕ → Type 0
-IsValid bytes = refusal_of (verdict bytes) ≡ None
+-- what can't yet be run is no valid input of `run`
+abbrev pub CanRun : Task → List unit.Unit → Type 0
+CanRun task.Run us = (out : List ℕ) × (program_of us ≡ Shows out)
+CanRun t us = Unit {0}
+
+-- an input that the task takes
+pub record IsValidFor (t : Task) (bytes : List ℕ) : Type 0 where
+  pub units : List unit.Unit
+  pub reads : reading bytes ≡ Read units
+  pub runs : CanRun t units
+
+abbrev pub IsValid : Option Command → List ℕ → Type 0
+IsValid None bytes = ⊥
+IsValid (Some c) bytes = IsValidFor c.task bytes

@@ -1,18 +1,14 @@
 // The program `stx` as one call over any source and any sinks: words and bytes go in, what is
-// shown, the report and the status come out.
+// written, the report and the status come out.
 #![tactic(auto)]
 
-mod elements;
-mod law;
-mod program;
-mod reading;
+mod finish;
 mod report;
+mod tasks;
 mod top;
-mod transcript;
-mod words;
 
-pub use law::bodies_are_judged_by_the_grammar;
-pub use top::{report_want_of_memory, stx};
+pub use finish::report_want_of_memory;
+pub use top::stx;
 
 #[cfg(test)]
 mod tests;

@@ -156,7 +156,7 @@ fn bodies_are_shown_or_refused(rt: HostRuntime) -> Result<(), Fail> {
         },
         Row {
             body: b"Transcript show: 'hi'!3 + 4!",
-            wanted: refused(b"stx: refused element 4 byte 0 Unbuilt\n"),
+            wanted: refused(b"stx: refused element 4 byte 0 Syntax\n"),
         },
         Row {
             body: b"Transcript show: 'hi'!x {!",
@@ -179,6 +179,14 @@ fn bodies_are_shown_or_refused(rt: HostRuntime) -> Result<(), Fail> {
             wanted: refused(b"stx: refused element 3 byte 0 Unbuilt\n"),
         },
         Row {
+            body: b"| a | Transcript cr!",
+            wanted: refused(b"stx: refused element 3 byte 0 Unbuilt\n"),
+        },
+        Row {
+            body: b"Transcript show: ('a')!",
+            wanted: refused(b"stx: refused element 3 byte 0 Unbuilt\n"),
+        },
+        Row {
             body: b"3 + 4!Global initializer!3 +!",
             wanted: refused(b"stx: refused element 5 byte 3 Syntax\n"),
         },
@@ -194,6 +202,63 @@ fn bodies_are_shown_or_refused(rt: HostRuntime) -> Result<(), Fail> {
         &deep,
         refused(b"stx: refused element 3 byte 200 TooDeep\n"),
     )
+}
+
+#[derive(Clone, Copy)]
+struct File {
+    rest: &'static [u8],
+    check: Wanted<'static>,
+    list: Wanted<'static>,
+}
+
+// Files that begin with a version, which `check` and `list` read.
+#[test]
+fn files_are_checked_and_listed(rt: HostRuntime) -> Result<(), Fail> {
+    let alloc = rt.alloc();
+    let syntax = refused(b"stx: refused element 2 byte 14 Syntax\n");
+    let missing = refused(b"stx: refused element 3 byte 0 MissingText\n");
+    let files = [
+        File {
+            rest: b"",
+            check: shown(b"ok 1 units 1 elements\n"),
+            list: shown(b"version 1.0\n"),
+        },
+        File {
+            rest: b"Global initializer!|a|a:=(3+4)negated. Transcript show:'x!!';cr!",
+            check: shown(b"ok 2 units 3 elements\n"),
+            list: shown(b"version 1.0\ninitializer\n"),
+        },
+        File {
+            rest: b"\"c\"!Annotation key: 'k' value: 'v'!",
+            check: shown(b"ok 2 units 3 elements\n"),
+            list: shown(b"version 1.0\ncomment\n"),
+        },
+        File {
+            rest: b"Pool named: 'P'!P variable: 'X'!P initializerFor: 'X'!3!",
+            check: shown(b"ok 4 units 5 elements\n"),
+            list: shown(b"version 1.0\npool P\nvariable P.X\ninitializer P.X\n"),
+        },
+        File {
+            rest: b"Class named: 'A b'!",
+            check: syntax,
+            list: syntax,
+        },
+        File {
+            rest: b"Global initializer!",
+            check: missing,
+            list: missing,
+        },
+    ];
+    for file in &files {
+        let mut input = Vec::from_slice(alloc, VERSION)?;
+        input.extend_from_slice(file.rest)?;
+        for pieces in [0, 200] {
+            let devices = Devices { pieces, ..WHOLE };
+            check(&rt, alloc, "check", &input, devices, file.check)?;
+            check(&rt, alloc, "list", &input, devices, file.list)?;
+        }
+    }
+    Ok(())
 }
 
 // Where and why the first n bytes of the greeting are refused.

@@ -1,56 +1,53 @@
 // The top call: what the program does.
-ghost use Rattle.std.specs.Prelude.{◌≡◌, ◌≢◌, ◌⊎◌, ◌<◌, map, string_bytes, is_some, IfSome, []};
-ghost use Rattle.std.specs.Io.KnownBytes.{append_known};
-ghost use Rattle.st_base.specs.Streams.{Rose, GainsPrefix};
+ghost use Rattle.std.specs.Prelude.{◌≡◌, ◌≢◌, ◌⊎◌, map, string_bytes, IfSome, Some, []};
+ghost use Rattle.st_base.specs.Streams.{Rose};
+ghost use Rattle.sif_elements.specs.Answered.{LeavesOpen};
 ghost use Rattle.st_run.specs.Commands.{command_of, ForBytes, Reads, IsValid, read_fault_line, memory_line};
-ghost use Rattle.st_run.specs.Headline.{IsDone, IsReported, LeavesOpen, StopsIn};
+ghost use Rattle.st_run.specs.Headline.{Calls, IsDone, IsReported, StopsIn};
 
-use crate::program::Gathered;
-use crate::reading::{Read, read_all};
-use crate::report::{OUT_OF_MEMORY, READ_FAULT, USAGE, refusal};
-use st_base::{Sink, Source, put_all};
+use crate::finish::{perform, refuse, report_usage, report_want_of_memory, tell};
+use crate::report::READ_FAULT;
+use crate::tasks::command_of;
+use sif_elements::reading::{ReadAnswer, read_definition};
+use st_base::{Sink, Source};
+use st_words::Command;
 use std::alloc::Global;
 
-// Whether the words are the one word `run`.
-fn says_run(words: &[String]) -> bool
-    ensures { result ≡ is_some (command_of (map string_bytes words.now)) }
+// Reads a program, and does what a command asks for.
+fn obey<S: Source, K: Sink, E: Sink>(
+    alloc: Global,
+    command: Command,
+    source: &mut S,
+    out: &mut K,
+    report: &mut E,
+) -> u8
+    ensures { Calls (Some command) (S.left source.old) (S.left source.new) (Rose (S.faults source.old) (S.faults source.new)) (Rose (K.faults out.old) (K.faults out.new)) (Rose (E.faults report.old) (E.faults report.new))
+        (K.written out.old) (K.written out.new) (E.written report.old) (E.written report.new) result }
 {
-    match words {
-        [word] => word.as_str() == "run",
-        _ => false,
+    match read_definition(alloc, source) {
+        ReadAnswer::Read(definition) => perform(alloc, command.task, &definition, out, report),
+        ReadAnswer::Refused(place, reason) => refuse(alloc, place, reason, report),
+        ReadAnswer::ReadFault => tell(report, READ_FAULT, 8),
+        ReadAnswer::OutOfMemory => report_want_of_memory(report),
     }
 }
 
-// Reports a line, and answers the status, or that of a write fault.
-fn tell<E: Sink>(report: &mut E, line: &[u8], status: u8) -> u8
-    requires { status < 9 ⊎ status ≡ 10 }
-    ensures told { result ≢ 9 → (result ≡ status) × (E.written report.new ≡ append_known (E.written report.old) line.now) × (E.faults report.new ≡ E.faults report.old) }
-    ensures part { result ≡ 9 → GainsPrefix (E.written report.old) (E.written report.new) line.now × Rose (E.faults report.old) (E.faults report.new) }
+// Does what the words ask for.
+fn call<S: Source, K: Sink, E: Sink>(
+    alloc: Global,
+    words: &[String],
+    source: &mut S,
+    out: &mut K,
+    report: &mut E,
+) -> u8
+    ensures { Calls (command_of (map string_bytes words.now)) (S.left source.old) (S.left source.new) (Rose (S.faults source.old) (S.faults source.new)) (Rose (K.faults out.old) (K.faults out.new)) (Rose (E.faults report.old) (E.faults report.new))
+        (K.written out.old) (K.written out.new) (E.written report.old) (E.written report.new) result }
 {
-    match put_all(report, line) {
-        Ok(()) => status,
-        Err(_) => 9,
+    match command_of(alloc, words) {
+        Ok(Some(command)) => obey(alloc, command, source, out, report),
+        Ok(None) => report_usage(report),
+        Err(_) => report_want_of_memory(report),
     }
-}
-
-// Writes the output, and answers the status 0, or that of a write fault.
-fn write_out<K: Sink>(out: &mut K, bytes: &[u8]) -> u8
-    ensures all { result ≢ 9 → (result ≡ 0) × (K.written out.new ≡ append_known (K.written out.old) bytes.now) }
-    ensures part { result ≡ 9 → GainsPrefix (K.written out.old) (K.written out.new) bytes.now × Rose (K.faults out.old) (K.faults out.new) }
-{
-    match put_all(out, bytes) {
-        Ok(()) => 0,
-        Err(_) => 9,
-    }
-}
-
-/// Reports want of memory, and answers the status 10, or 9 where the report failed.
-pub fn report_want_of_memory<E: Sink>(report: &mut E) -> u8
-    ensures status { result ≡ 9 ⊎ result ≡ 10 }
-    ensures told { result ≡ 10 → E.written report.new ≡ append_known (E.written report.old) memory_line }
-    ensures part { result ≡ 9 → GainsPrefix (E.written report.old) (E.written report.new) memory_line × Rose (E.faults report.old) (E.faults report.new) }
-{
-    tell(report, OUT_OF_MEMORY, 10)
 }
 
 /// Does all that the program does for its words and its input, and answers the status: 0 done,
@@ -87,22 +84,7 @@ pub fn stx<S: Source, K: Sink, E: Sink>(
         → ForBytes (command_of (map string_bytes words.now)) (S.left source.old)
         (λ outcome. IsDone outcome (K.written out.old) (K.written out.new) (E.written report.old) (E.written report.new) result) }
     ensures valid { ¬ Rose (S.faults source.old) (S.faults source.new) → ¬ Rose (K.faults out.old) (K.faults out.new) → ¬ Rose (E.faults report.old) (E.faults report.new) → result ≢ 10
-        → Reads (command_of (map string_bytes words.now)) → IfSome (S.left source.old) (λ bytes. IsValid bytes → result ≡ 0) }
+        → Reads (command_of (map string_bytes words.now)) → IfSome (S.left source.old) (λ bytes. IsValid (command_of (map string_bytes words.now)) bytes → result ≡ 0) }
 {
-    if !says_run(words) {
-        return tell(report, USAGE, 2);
-    }
-    let mut program = Gathered {
-        shown: Vec::new(alloc),
-        unbuilt: None,
-    };
-    match read_all(alloc, source, &mut program) {
-        Read::Done => write_out(out, &program.shown),
-        Read::Refused(place, reason) => match refusal(alloc, place, reason) {
-            Ok(line) => tell(report, &line, 1),
-            Err(_) => report_want_of_memory(report),
-        },
-        Read::ReadFault => tell(report, READ_FAULT, 8),
-        Read::OutOfMemory => report_want_of_memory(report),
-    }
+    call(alloc, words, source, out, report)
 }

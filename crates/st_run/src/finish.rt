@@ -1,0 +1,80 @@
+// The ends of a call: what is written, and the status.
+ghost use Rattle.std.specs.Prelude.{◌≡◌, ◌≢◌, ◌⊎◌, ◌<◌, ◌^◌, ◌-◌, ℕ, List, [], Option, None};
+ghost use Rattle.std.specs.Io.KnownBytes.{append_known};
+ghost use Rattle.st_base.specs.Streams.{Rose, GainsPrefix};
+ghost use Rattle.st_tree.specs.Numbers.{elements_in};
+ghost use Rattle.st_run.specs.Commands.{Outcome, usage_line, done, refused, of_units, does};
+ghost use Rattle.st_run.specs.Headline.{Finishes, IsReported};
+
+use crate::report::{OUT_OF_MEMORY, USAGE, refusal};
+use crate::tasks::{Written, task_output};
+use st_base::{Place, Reason, Sink, put_all};
+use st_tree::units::Definition;
+use st_words::Task;
+use std::alloc::Global;
+
+// Reports a line, and answers the status, or that of a write fault.
+pub(crate) fn tell<E: Sink>(report: &mut E, line: &[u8], status: u8) -> u8
+    ensures told { result ≢ 9 → (result ≡ status) × (E.written report.new ≡ append_known (E.written report.old) line.now) }
+    ensures part { status ≢ 9 → result ≡ 9 → GainsPrefix (E.written report.old) (E.written report.new) line.now × Rose (E.faults report.old) (E.faults report.new) }
+{
+    match put_all(report, line) {
+        Ok(()) => status,
+        Err(_) => 9,
+    }
+}
+
+/// Reports want of memory, and answers the status 10, or 9 where the report failed.
+pub fn report_want_of_memory<E: Sink>(report: &mut E) -> u8
+    ensures status { (result ≡ 9) ⊎ (result ≡ 10) }
+    ensures finishes { (outcome : Outcome) (out : Option (List ℕ)) → Finishes outcome ⊥ (Rose (E.faults report.old) (E.faults report.new)) out out (E.written report.old) (E.written report.new) result }
+{
+    tell(report, OUT_OF_MEMORY, 10)
+}
+
+/// Reports that the words are no command.
+pub(crate) fn report_usage<E: Sink>(report: &mut E) -> u8
+    ensures { (out : Option (List ℕ)) → Finishes (does None []) ⊥ (Rose (E.faults report.old) (E.faults report.new)) out out (E.written report.old) (E.written report.new) result }
+{
+    tell(report, USAGE, 2)
+}
+
+/// Reports a refusal.
+pub(crate) fn refuse<E: Sink>(alloc: Global, place: Place, reason: Reason, report: &mut E) -> u8
+    ensures { (out : Option (List ℕ)) → Finishes (refused place reason) ⊥ (Rose (E.faults report.old) (E.faults report.new)) out out (E.written report.old) (E.written report.new) result }
+{
+    match refusal(alloc, place, reason) {
+        Ok(line) => tell(report, line.as_slice(), 1),
+        Err(_) => report_want_of_memory(report),
+    }
+}
+
+// Writes the output, and answers the status 0, or that of a write fault.
+fn write_out<K: Sink>(out: &mut K, bytes: &[u8]) -> u8
+    ensures { (report : Option (List ℕ)) → Finishes (done bytes.now) (Rose (K.faults out.old) (K.faults out.new)) ⊥ (K.written out.old) (K.written out.new) report report result }
+{
+    match put_all(out, bytes) {
+        Ok(()) => 0,
+        Err(_) => 9,
+    }
+}
+
+/// Does a task with a program that was read.
+pub(crate) fn perform<K: Sink, E: Sink>(
+    alloc: Global,
+    task: Task,
+    definition: &Definition,
+    out: &mut K,
+    report: &mut E,
+) -> u8
+    requires { elements_in definition.now.units < 2 ^ 32 - 1 }
+    ensures { Finishes (of_units task definition.now.units) (Rose (K.faults out.old) (K.faults out.new)) (Rose (E.faults report.old) (E.faults report.new)) (K.written out.old) (K.written out.new) (E.written report.old) (E.written report.new) result }
+{
+    match task_output(alloc, task, definition) {
+        Ok(Written::Output(bytes)) => write_out(out, bytes.as_slice()),
+        Ok(Written::UnbuiltAt(element)) => {
+            refuse(alloc, Place { element, byte: 0 }, Reason::Unbuilt, report)
+        }
+        Err(_) => report_want_of_memory(report),
+    }
+}
