@@ -65,6 +65,61 @@ fn class_of(alloc: Global, text: &[u8], tokens: &[Token]) -> Result<ClassUnit, O
     })
 }
 
+// The pool's variable that an element declares.
+fn pool_variable(
+    alloc: Global,
+    first: &[u8],
+    text: &[u8],
+    tokens: &[Token],
+) -> Result<UnitKind, OutOfMemory>
+    ensures { IfOk result (λ kind. kind ≡ UnitKind.PoolVariable first.now (headers.string_at text.now tokens.now 0)) }
+{
+    Ok(UnitKind::PoolVariable {
+        pool: Text::from_bytes(alloc, first)?,
+        name: string_at(alloc, text, tokens, 0)?,
+    })
+}
+
+// The pool's constant that an element declares.
+fn pool_constant(
+    alloc: Global,
+    first: &[u8],
+    text: &[u8],
+    tokens: &[Token],
+) -> Result<UnitKind, OutOfMemory>
+    ensures { IfOk result (λ kind. kind ≡ UnitKind.PoolConstant first.now (headers.string_at text.now tokens.now 0)) }
+{
+    Ok(UnitKind::PoolConstant {
+        pool: Text::from_bytes(alloc, first)?,
+        name: string_at(alloc, text, tokens, 0)?,
+    })
+}
+
+// The pool's variable or constant that the next text initializes.
+fn pool_initializer(
+    alloc: Global,
+    first: &[u8],
+    text: &[u8],
+    tokens: &[Token],
+) -> Result<Target, OutOfMemory>
+    ensures { IfOk result (λ target. target ≡ Target.PoolInitializer first.now (headers.string_at text.now tokens.now 0)) }
+{
+    Ok(Target::PoolInitializer {
+        pool: Text::from_bytes(alloc, first)?,
+        name: string_at(alloc, text, tokens, 0)?,
+    })
+}
+
+// The key and the value of an annotation.
+fn annotation(alloc: Global, text: &[u8], tokens: &[Token]) -> Result<Annotation, OutOfMemory>
+    ensures { IfOk result (λ annotation. annotation ≡ record { key = headers.string_at text.now tokens.now 0; value = headers.string_at text.now tokens.now 2 }) }
+{
+    Ok(Annotation {
+        key: string_at(alloc, text, tokens, 0)?,
+        value: string_at(alloc, text, tokens, 2)?,
+    })
+}
+
 /// What an element of this row says, by its first identifier and the tokens behind its first two.
 pub fn header_of(
     alloc: Global,
@@ -87,21 +142,9 @@ pub fn header_of(
             Ok(Header::Whole(UnitKind::GlobalConstant(name)))
         }
         Row::Pool => Ok(Header::Whole(UnitKind::Pool(string_at(alloc, text, tokens, 0)?))),
-        Row::PoolVariable => {
-            let pool = Text::from_bytes(alloc, first)?;
-            let name = string_at(alloc, text, tokens, 0)?;
-            Ok(Header::Whole(UnitKind::PoolVariable { pool, name }))
-        }
-        Row::PoolConstant => {
-            let pool = Text::from_bytes(alloc, first)?;
-            let name = string_at(alloc, text, tokens, 0)?;
-            Ok(Header::Whole(UnitKind::PoolConstant { pool, name }))
-        }
-        Row::PoolInitializer => {
-            let pool = Text::from_bytes(alloc, first)?;
-            let name = string_at(alloc, text, tokens, 0)?;
-            Ok(Header::Awaits(Target::PoolInitializer { pool, name }))
-        }
+        Row::PoolVariable => Ok(Header::Whole(pool_variable(alloc, first, text, tokens)?)),
+        Row::PoolConstant => Ok(Header::Whole(pool_constant(alloc, first, text, tokens)?)),
+        Row::PoolInitializer => Ok(Header::Awaits(pool_initializer(alloc, first, text, tokens)?)),
         Row::ProgramInitializer => Ok(Header::Awaits(Target::ProgramInitializer)),
         Row::Initializer => {
             let name = Text::from_bytes(alloc, first)?;
@@ -115,10 +158,6 @@ pub fn header_of(
             let class = Text::from_bytes(alloc, first)?;
             Ok(Header::Awaits(Target::ClassMethod(class)))
         }
-        Row::Annotation => {
-            let key = string_at(alloc, text, tokens, 0)?;
-            let value = string_at(alloc, text, tokens, 2)?;
-            Ok(Header::Annotates(Annotation { key, value }))
-        }
+        Row::Annotation => Ok(Header::Annotates(annotation(alloc, text, tokens)?)),
     }
 }

@@ -1,4 +1,5 @@
-// What a whole interchange file says, with the law that it says one thing, and the kinds of its elements (ANSI NCITS 319, 4.1).
+// Interchange files: the texts of elements go in, units come out, or the first fault with its byte and reason
+// (ANSI NCITS 319, 4.1). With the law that each file says one thing.
 #![tactic(auto)]
 
 pub mod comments;
