@@ -165,7 +165,7 @@ fn check_units(rt: &impl Abort, alloc: Global, definition: &Definition) -> Resul
 #[test]
 fn the_bank_is_read_copied_and_numbered(rt: HostRuntime) -> Result<(), Fail> {
     let alloc = rt.alloc();
-    for piece in [1, 3, 64, 10_000] {
+    for piece in [1, 2, 3, 64, 10_000] {
         let given = Given {
             piece,
             pieces: 10_000,
