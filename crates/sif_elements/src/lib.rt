@@ -9,6 +9,8 @@ pub mod headers;
 pub mod law;
 pub mod progress;
 pub mod reading;
+#[cfg(test)]
+mod reading_tests;
 pub mod rows;
 #[cfg(test)]
 mod tests;

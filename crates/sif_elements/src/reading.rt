@@ -40,10 +40,9 @@ fn refuse(place: Place, reason: Reason) -> Turned
 }
 
 // The file ends, and the next element would have this number.
-fn finish(progress: Progress, number: u32) -> Turned
-    ensures { made result ≡ Some (Ends (at_end progress number)) }
+fn finish(progress: Progress, element: u32) -> Turned
+    ensures { made result ≡ Some (Ends (at_end progress element)) }
 {
-    let element = number;
     match progress {
         Progress::Start => refuse(Place { element, byte: 0 }, Reason::MissingVersion),
         Progress::Awaiting(_, _) => refuse(Place { element, byte: 0 }, Reason::MissingText),
@@ -52,16 +51,13 @@ fn finish(progress: Progress, number: u32) -> Turned
 }
 
 // Takes the element with this number.
-fn take_element(alloc: Global, progress: Progress, number: u32, text: &[u8]) -> Turned
+fn take_element(alloc: Global, progress: Progress, element: u32, text: &[u8]) -> Turned
     requires { length text.now ≤ 1048576 }
-    ensures { IfSome (made result) (λ turn. turn ≡ turn_behind number (step_of progress text.now)) }
+    ensures { IfSome (made result) (λ turn. turn ≡ turn_behind element (step_of progress text.now)) }
 {
     match step(alloc, progress, text) {
         Stepped::Goes(after) => Turned::Goes(after),
-        Stepped::Spoilt(byte, reason) => {
-            let element = number;
-            refuse(Place { element, byte }, reason)
-        }
+        Stepped::Spoilt(byte, reason) => refuse(Place { element, byte }, reason),
         Stepped::OutOfMemory => Turned::Ends(ReadAnswer::OutOfMemory),
     }
 }

@@ -273,7 +273,7 @@ fn stepped(rt: &impl Abort, alloc: Global, texts: &[&[u8]]) -> Result<Stepped, F
     Ok(Stepped::Goes(progress))
 }
 
-fn say_annotated(out: &mut Vec<u8>, unit: &Unit) -> Result<(), OutOfMemory> {
+pub(crate) fn say_annotated(out: &mut Vec<u8>, unit: &Unit) -> Result<(), OutOfMemory> {
     say_unit(out, &unit.kind)?;
     for annotation in unit.annotations.as_slice() {
         say_three(out, b"with", &annotation.key, &annotation.value)?;
