@@ -88,3 +88,20 @@ lays_closed g old mid new to r ws done close = gains_then old mid new r (doubled
 -- the sink fails in the words of an element
 pub fails_open : (old new : Option (List ℕ)) (text : List ℕ) → GainsPrefix old new (doubled text) → GainsPrefix old new (closed text)
 fails_open old new text fails = gains_stop old old new [] (doubled text) closing (closed text) (started old) fails refl
+
+-- a word of three parts
+pub word_middle_fails : (g : Gap) (old mid new : Option (List ℕ)) (w : Word) (a b d : List ℕ) → IsSpelled w (a ++ (b ++ d)) → mid ≡ append_known old (doubled (gap_bytes g ++ a)) → GainsPrefix mid new (doubled b) → GainsPrefix old new (doubled (laid g (w ∷ [])))
+word_middle_fails g old mid new w a b d is first fails =
+    fails_word g old new w (a ++ (b ++ d)) is (fails_then old mid new (gap_bytes g ++ a) b d (gap_bytes g ++ (a ++ (b ++ d))) first fails (sym (append_assoc (gap_bytes g) a (b ++ d))))
+
+front_written : (g : Gap) (old mid mid' : Option (List ℕ)) (a b : List ℕ) → mid ≡ append_known old (doubled (gap_bytes g ++ a)) → mid' ≡ append_known mid (doubled b) → mid' ≡ append_known old (doubled (gap_bytes g ++ (a ++ b)))
+front_written g old mid mid' a b first second = written_then old mid mid' (gap_bytes g ++ a) b first second ∙ ap (λ (ys : List ℕ). append_known old (doubled ys)) (append_assoc (gap_bytes g) a b)
+
+spelled_apart : (w : Word) (a b d : List ℕ) → IsSpelled w (a ++ (b ++ d)) → IsSpelled w ((a ++ b) ++ d)
+spelled_apart w a b d is = subst (IsSpelled w) (sym (append_assoc a b d)) is
+
+pub word_third_fails : (g : Gap) (old mid mid' new : Option (List ℕ)) (w : Word) (a b d : List ℕ) → IsSpelled w (a ++ (b ++ d)) → mid ≡ append_known old (doubled (gap_bytes g ++ a)) → mid' ≡ append_known mid (doubled b) → GainsPrefix mid' new (doubled d) → GainsPrefix old new (doubled (laid g (w ∷ [])))
+word_third_fails g old mid mid' new w a b d is first second fails = word_last_fails g old mid' new w (a ++ b) d (spelled_apart w a b d is) (front_written g old mid mid' a b first second) fails
+
+pub word_of_three : (g : Gap) (old mid mid' new : Option (List ℕ)) (w : Word) (a b d : List ℕ) → IsSpelled w (a ++ (b ++ d)) → mid ≡ append_known old (doubled (gap_bytes g ++ a)) → mid' ≡ append_known mid (doubled b) → new ≡ append_known mid' (doubled d) → Done g old Blank new (w ∷ [])
+word_of_three g old mid mid' new w a b d is first second third = word_written g old mid' new w (a ++ b) d (spelled_apart w a b d is) (front_written g old mid mid' a b first second) third

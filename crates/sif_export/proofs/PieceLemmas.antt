@@ -7,6 +7,7 @@ use Rattle.std.proofs.lemmas.Bool.Decides.{eqb_tells}
 use Rattle.st_base.specs.Streams.{GainsPrefix}
 use Rattle.st_base.proofs.Known.{take-add, append_known-append}
 use Rattle.sif_chunks.specs.Split.{doubled}
+use Rattle.sif_chunks.specs.Writing.{closed, all_closed}
 use Rattle.sif_chunks.proofs.SplitLemmas.{eqb-not}
 use Rattle.sif_chunks.proofs.WriterLemmas.{doubled-append, gains_behind, gains_front}
 use Rattle.sif_export.specs.Words.{quotes_doubled, Gains, Puts}
@@ -113,3 +114,16 @@ part_of_quote old now new bytes at so_far low is part =
 
 pub quote_at : (bytes : List ℕ) (at run : ℕ) → run < length (drop at bytes) → (run < length (drop at bytes) → get_or (drop at bytes) run 0 ≡ 39) → get_or bytes (at + run) 0 ≡ 39
 quote_at bytes at run low is = sym (get_or-drop at bytes run 0) ∙ is low
+
+-- ---- elements
+
+-- one element is all of them
+pub gains_one : {A E : Type 0} (old new : Option (List ℕ)) (r : Result A E) (text : List ℕ) (texts : List (List ℕ)) → Gains old new r (closed text) → texts ≡ text ∷ [] → Gains old new r (all_closed texts)
+gains_one old new r text texts gains is = gains_as old new r (closed text) (all_closed texts) gains (ap all_closed is ∙ append-nil (closed text))
+
+-- the first of two elements fails, or is followed by the second
+pub first_fails : (old new : Option (List ℕ)) (a b : List ℕ) (texts : List (List ℕ)) → GainsPrefix old new (closed a) → texts ≡ a ∷ b ∷ [] → GainsPrefix old new (all_closed texts)
+first_fails old new a b texts fails is = gains_stop old old new [] (closed a) (closed b ++ []) (all_closed texts) (started old) fails (ap all_closed is)
+
+pub gains_two : {A E : Type 0} (old mid new : Option (List ℕ)) (r : Result A E) (a b : List ℕ) (texts : List (List ℕ)) → mid ≡ append_known old (closed a) → Gains mid new r (closed b) → texts ≡ a ∷ b ∷ [] → Gains old new r (all_closed texts)
+gains_two old mid new r a b texts first gains is = gains_as old new r (closed a ++ closed b) (all_closed texts) (gains_then old mid new r (closed a) (closed b) first gains) (ap all_closed is ∙ ap (λ (ys : List ℕ). closed a ++ ys) (append-nil (closed b)))

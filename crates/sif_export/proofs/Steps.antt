@@ -1,5 +1,5 @@
 -- Lists of words that grow at their end, and the words of one level of a tree.
-use Rattle.std.proofs.Common.{◌≡◌, ◌≢◌, ◌+◌, ◌<◌, ◌≤◌, take, drop, length, map, ℕ, zero, suc, Bool, true, false, if◌then◌else◌, List, [], ◌∷◌, ◌++◌, get_or, eqb, subst, ℤ, refl, ap, sym, ◌∙◌, append_assoc, arith}
+use Rattle.std.proofs.Common.{◌≡◌, ◌≢◌, ◌+◌, ◌<◌, ◌≤◌, take, drop, length, map, ℕ, zero, suc, Bool, true, false, if◌then◌else◌, List, [], ◌∷◌, ◌++◌, get_or, eqb, subst, ℤ, refl, ap, sym, ◌∙◌, append_assoc, arith, codes}
 use Rattle.std.proofs.lemmas.List.{append-nil, take_more, take-append-drop}
 use Rattle.st_tree.specs.declared.tree.Primary.TheFolds.{fold_out-Primary, fold_out-Statement, fold_out-Block, fold_out-Body, fold_out-Expr, fold_out-Message, fold_out-Operand, fold-roll-Primary, fold-roll-Statement, fold-Primary, fold-Statement}
 use Rattle.st_tree.specs.declared.tree.Name.{Name}
@@ -19,10 +19,17 @@ use Rattle.st_tree.specs.declared.tree.Body.{Body, out-Body}
 use Rattle.st_tree.specs.declared.tree.Expr.{Expr, out-Expr}
 use Rattle.st_tree.specs.declared.tree.Message.{Message, out-Message}
 use Rattle.st_tree.specs.declared.tree.Operand.{Operand, out-Operand}
+use Rattle.st_tree.specs.declared.tree.Method.{Method}
 use Rattle.st_base.specs.TokenBytes.{is_letter}
-use Rattle.sif_export.specs.Words.{Word, Mark, Named, Key, Operator, Parameter, Number, Char, Str, Symbol, Sign, IsSpelled}
+use Rattle.sif_chunks.specs.Writing.{closed, all_closed}
+use Rattle.st_tree.specs.declared.units.ClassUnit.{ClassUnit}
+use Rattle.st_tree.specs.declared.units.Annotation.{Annotation}
+use Rattle.st_tree.specs.declared.units.Unit.{Unit}
+use Rattle.sif_export.specs.Words.{Word, Mark, Named, Key, Operator, Parameter, Number, Char, Str, Symbol, Sign, IsSpelled, Joined, laid, quotes_doubled}
+use Rattle.sif_export.proofs.PieceLemmas.{quotes_doubled-append}
+use Rattle.sif_export.specs.ExportText.{keyed, spaced, spaced_behind, way_name, list_words, class_words, annotation_words, annotation_text, body_text, is_empty_body, unit_texts, element_texts}
 use Rattle.sif_export.specs.declared.sign.Sign.TheVariants as sign
-use Rattle.sif_export.specs.TreeWords.{Words, joined, each_behind, parted, literal_step, literal_words, first_part, other_parts, part_word, sent_words, message_words, target_words, named_words, colon_words, temporary_words, parameter_words, body_words, body_parts, inner_words, at_primary, at_statement, at_block, at_body, at_expr, at_message, at_operand, primary_words, statement_words, block_words, expr_words, each_message, operand_words}
+use Rattle.sif_export.specs.TreeWords.{Words, joined, each_behind, parted, literal_step, literal_words, first_part, other_parts, part_word, sent_words, message_words, target_words, named_words, colon_words, temporary_words, parameter_words, body_words, body_parts, inner_words, at_primary, at_statement, at_block, at_body, at_expr, at_message, at_operand, primary_words, statement_words, block_words, expr_words, each_message, operand_words, name_words, pattern_words, top_words}
 
 pub operand_out : (o : Operand) → operand_words o ≡ primary_words (out-Operand o).primary ++ joined (map each_message (out-Operand o).chain)
 unfolding operand_words primary_words each_message
@@ -274,3 +281,75 @@ temporaries_of bar (n ∷ ns) some = refl
 
 pub whole_message : (m : Message) (s : List ℕ) (items : List Operand) → (out-Message m).selector ≡ s → (out-Message m).arguments ≡ items → ((out-Message m).arguments ≡ [] → ⊥) → each_message m ≡ sent_words s (map operand_words items)
 whole_message m s items same all some = message_out m ∙ sent_message (out-Message m).selector operand_words (out-Message m).arguments some ∙ ap (λ u. sent_words u (map operand_words (out-Message m).arguments)) same ∙ ap (λ xs. sent_words s (map operand_words xs)) all
+
+pub whole_pattern : (m : Method) (s : List ℕ) (items : List Name) → m.selector ≡ s → m.parameters ≡ items → (m.parameters ≡ [] → ⊥) → pattern_words m ≡ sent_words s (map name_words items)
+unfolding pattern_words
+whole_pattern m s items same all some = sent_message m.selector name_words m.parameters some ∙ ap (λ u. sent_words u (map name_words m.parameters)) same ∙ ap (λ xs. sent_words s (map name_words xs)) all
+
+pub plain_pattern : (m : Method) → m.parameters ≡ [] → pattern_words m ≡ Named m.selector ∷ []
+unfolding pattern_words
+plain_pattern m none = ap (λ xs. message_words m.selector (map name_words xs)) none
+
+-- the words of a class and of an annotation, with their texts under other names
+pub class_words-of : (c : ClassUnit) (n s w : List ℕ) → n ≡ c.name → s ≡ c.superclass → w ≡ way_name c.indexed → class_words c ≡ Named (codes "Class") ∷ keyed (codes "named:") n ++ (keyed (codes "superclass:") s ++ (Key (codes "indexedInstanceVariables:") ∷ Symbol w ∷ list_words c))
+class_words-of c n s w name superclass way =
+    ap (λ (t : List ℕ). Named (codes "Class") ∷ keyed (codes "named:") t ++ (keyed (codes "superclass:") c.superclass ++ (Key (codes "indexedInstanceVariables:") ∷ Symbol (way_name c.indexed) ∷ list_words c))) (sym name)
+    ∙ ap (λ (t : List ℕ). Named (codes "Class") ∷ keyed (codes "named:") n ++ (keyed (codes "superclass:") t ++ (Key (codes "indexedInstanceVariables:") ∷ Symbol (way_name c.indexed) ∷ list_words c))) (sym superclass)
+    ∙ ap (λ (t : List ℕ). Named (codes "Class") ∷ keyed (codes "named:") n ++ (keyed (codes "superclass:") s ++ (Key (codes "indexedInstanceVariables:") ∷ Symbol t ∷ list_words c))) (sym way)
+
+pub annotation_words-of : (a : Annotation) (k v : List ℕ) → k ≡ a.key → v ≡ a.value → annotation_words a ≡ Named (codes "Annotation") ∷ keyed (codes "key:") k ++ keyed (codes "value:") v
+annotation_words-of a k v key value =
+    ap (λ (t : List ℕ). Named (codes "Annotation") ∷ keyed (codes "key:") t ++ keyed (codes "value:") a.value) (sym key) ∙ ap (λ (t : List ℕ). Named (codes "Annotation") ∷ keyed (codes "key:") k ++ keyed (codes "value:") t) (sym value)
+
+pub body_text-empty : (b : Body) → true ≡ is_empty_body b → body_text b ≡ codes "\"\" "
+unfolding body_text
+body_text-empty b is = ap (λ (x : Bool). if x then codes "\"\" " else laid Joined (top_words b)) (sym is)
+
+pub body_text-some : (b : Body) → false ≡ is_empty_body b → body_text b ≡ laid Joined (top_words b)
+unfolding body_text
+body_text-some b is = ap (λ (x : Bool). if x then codes "\"\" " else laid Joined (top_words b)) (sym is)
+
+-- elements one behind the other
+pub all_closed-append : (a b : List (List ℕ)) → all_closed (a ++ b) ≡ all_closed a ++ all_closed b
+all_closed-append [] b = refl
+all_closed-append (t ∷ ts) b = ap (λ (ys : List ℕ). closed t ++ ys) (all_closed-append ts b) ∙ sym (append_assoc (closed t) (all_closed ts) (all_closed b))
+
+pub annotations_cut : (items : List Annotation) (i : ℕ) (x : Annotation) → i < length items → x ≡ get_or items i x → all_closed (map annotation_text items) ≡ all_closed (map annotation_text (take i items)) ++ (closed (annotation_text x) ++ all_closed (map annotation_text (drop (i + 1) items)))
+annotations_cut items i x low is =
+    ap (λ (xs : List Annotation). all_closed (map annotation_text xs)) (item_cut items i x low is) ∙ ap all_closed (map-append annotation_text (take i items) (x ∷ drop (i + 1) items)) ∙ all_closed-append (map annotation_text (take i items)) (map annotation_text (x ∷ drop (i + 1) items))
+
+pub annotations_more : (items : List Annotation) (i : ℕ) (x : Annotation) → i < length items → x ≡ get_or items i x → all_closed (map annotation_text (take (i + 1) items)) ≡ all_closed (map annotation_text (take i items)) ++ closed (annotation_text x)
+annotations_more items i x low is =
+    ap (λ (xs : List Annotation). all_closed (map annotation_text xs)) (item_more items i x low is) ∙ ap all_closed (map-append annotation_text (take i items) (x ∷ [])) ∙ all_closed-append (map annotation_text (take i items)) (annotation_text x ∷ [])
+    ∙ ap (λ (ys : List ℕ). all_closed (map annotation_text (take i items)) ++ ys) (append-nil (closed (annotation_text x)))
+
+element_texts-append : (a b : List Unit) → element_texts (a ++ b) ≡ element_texts a ++ element_texts b
+element_texts-append [] b = refl
+element_texts-append (u ∷ us) b = ap (λ (ys : List (List ℕ)). unit_texts u ++ ys) (element_texts-append us b) ∙ sym (append_assoc (unit_texts u) (element_texts us) (element_texts b))
+
+pub units_cut : (items : List Unit) (i : ℕ) (x : Unit) → i < length items → x ≡ get_or items i x → all_closed (element_texts items) ≡ all_closed (element_texts (take i items)) ++ (all_closed (unit_texts x) ++ all_closed (element_texts (drop (i + 1) items)))
+units_cut items i x low is =
+    ap (λ (xs : List Unit). all_closed (element_texts xs)) (item_cut items i x low is) ∙ ap all_closed (element_texts-append (take i items) (x ∷ drop (i + 1) items)) ∙ all_closed-append (element_texts (take i items)) (unit_texts x ++ element_texts (drop (i + 1) items))
+    ∙ ap (λ (ys : List ℕ). all_closed (element_texts (take i items)) ++ ys) (all_closed-append (unit_texts x) (element_texts (drop (i + 1) items)))
+
+pub units_more : (items : List Unit) (i : ℕ) (x : Unit) → i < length items → x ≡ get_or items i x → all_closed (element_texts (take (i + 1) items)) ≡ all_closed (element_texts (take i items)) ++ all_closed (unit_texts x)
+units_more items i x low is =
+    ap (λ (xs : List Unit). all_closed (element_texts xs)) (item_more items i x low is) ∙ ap all_closed (element_texts-append (take i items) (x ∷ [])) ∙ all_closed-append (element_texts (take i items)) (unit_texts x ++ [])
+    ∙ ap (λ (ts : List (List ℕ)). all_closed (element_texts (take i items)) ++ all_closed ts) (append-nil (unit_texts x))
+
+spaced_behind-append : (a b : List (List ℕ)) → spaced_behind (a ++ b) ≡ spaced_behind a ++ spaced_behind b
+spaced_behind-append [] b = refl
+spaced_behind-append (n ∷ ns) b = ap (λ (ys : List ℕ). 32 ∷ n ++ ys) (spaced_behind-append ns b) ∙ ap (λ (ys : List ℕ). 32 ∷ ys) (sym (append_assoc n (spaced_behind ns) (spaced_behind b)))
+
+pub names_cut : (items : List (List ℕ)) (i : ℕ) (x : List ℕ) → i < length items → x ≡ get_or items i x → quotes_doubled (spaced_behind items) ≡ quotes_doubled (spaced_behind (take i items)) ++ ((32 ∷ []) ++ (quotes_doubled x ++ quotes_doubled (spaced_behind (drop (i + 1) items))))
+names_cut items i x low is =
+    ap (λ (xs : List (List ℕ)). quotes_doubled (spaced_behind xs)) (item_cut items i x low is) ∙ ap quotes_doubled (spaced_behind-append (take i items) (x ∷ drop (i + 1) items)) ∙ quotes_doubled-append (spaced_behind (take i items)) (32 ∷ x ++ spaced_behind (drop (i + 1) items))
+    ∙ ap (λ (ys : List ℕ). quotes_doubled (spaced_behind (take i items)) ++ 32 ∷ ys) (quotes_doubled-append x (spaced_behind (drop (i + 1) items)))
+
+pub names_more : (items : List (List ℕ)) (i : ℕ) (x : List ℕ) → i < length items → x ≡ get_or items i x → quotes_doubled (spaced_behind (take (i + 1) items)) ≡ (quotes_doubled (spaced_behind (take i items)) ++ (32 ∷ [])) ++ quotes_doubled x
+names_more items i x low is =
+    ap (λ (xs : List (List ℕ)). quotes_doubled (spaced_behind xs)) (item_more items i x low is) ∙ ap quotes_doubled (spaced_behind-append (take i items) (x ∷ [])) ∙ quotes_doubled-append (spaced_behind (take i items)) (32 ∷ x ++ [])
+    ∙ ap (λ (ys : List ℕ). quotes_doubled (spaced_behind (take i items)) ++ 32 ∷ quotes_doubled ys) (append-nil x) ∙ sym (append_assoc (quotes_doubled (spaced_behind (take i items))) (32 ∷ []) (quotes_doubled x))
+
+pub spaced-front : (x : List ℕ) (xs : List (List ℕ)) → quotes_doubled (spaced (x ∷ xs)) ≡ quotes_doubled x ++ quotes_doubled (spaced_behind xs)
+spaced-front x xs = quotes_doubled-append x (spaced_behind xs)

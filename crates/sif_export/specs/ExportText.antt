@@ -51,20 +51,20 @@ annotation_words a = Named (codes "Annotation") ∷ keyed (codes "key:") a.key +
 -- ---- the texts of elements
 
 -- `FIRST KEY 'TEXT'`
-abbrev pub string_text : List ℕ → List ℕ → List ℕ → List ℕ
+unfoldable pub string_text : List ℕ → List ℕ → List ℕ → List ℕ
 string_text first key text = laid Joined (Named first ∷ keyed key text)
 
 -- `FIRST SECOND`
-abbrev pub pair_text : List ℕ → List ℕ → List ℕ
+unfoldable pub pair_text : List ℕ → List ℕ → List ℕ
 pair_text first second = laid Joined (Named first ∷ Named second ∷ [])
 
-abbrev pub class_text : ClassUnit → List ℕ
+unfoldable pub class_text : ClassUnit → List ℕ
 class_text c = laid Joined (class_words c)
 
-abbrev pub annotation_text : Annotation → List ℕ
+unfoldable pub annotation_text : Annotation → List ℕ
 annotation_text a = laid Joined (annotation_words a)
 
-abbrev pub comment_text : List (List ℕ) → List ℕ
+unfoldable pub comment_text : List (List ℕ) → List ℕ
 comment_text comments = laid Joined (map Remark comments)
 
 abbrev pub lacks : {A : Type 0} → List A → Bool
@@ -75,11 +75,11 @@ abbrev pub is_empty_body : Body → Bool
 is_empty_body b = lacks (out-Body b).temporaries && lacks (out-Body b).statements
 
 -- an empty body is a comment and a space, since a white element would be skipped
-abbrev pub body_text : Body → List ℕ
+unfoldable pub body_text : Body → List ℕ
 body_text b = if is_empty_body b then codes "\"\" " else laid Joined (top_words b)
 
 -- the body of a method begins on a new line
-abbrev pub method_text : Method → List ℕ
+unfoldable pub method_text : Method → List ℕ
 method_text m = laid Joined (pattern_words m) ++ laid Line (top_words m.body)
 
 -- ---- units

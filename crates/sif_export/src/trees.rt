@@ -229,7 +229,7 @@ fn block<K: Sink>(sink: &mut K, gap: Gap, value: &Block) -> Result<Gap, Failed>
 }
 
 /// Writes the body of a method or initializer.
-#[tactic(auto, unfolding(crate::specs::Export::top_words))]
+#[tactic(auto, unfolding(crate::specs::TreeWords::top_words))]
 pub(crate) fn top<K: Sink>(sink: &mut K, gap: Gap, value: &Body) -> Result<Gap, Failed>
     ensures text { Lays gap (K.written sink.old) (K.written sink.new) result (top_words value.now) }
     ensures cause { HasCause (K.faults sink.old) (K.faults sink.new) result }
