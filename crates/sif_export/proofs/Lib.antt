@@ -1,0 +1,5 @@
+pub mod PieceLemmas
+pub mod LaidLemmas
+pub mod Steps
+pub mod Shown
+pub mod Lexing

@@ -1,0 +1,17 @@
+use Rattle.std.proofs.lemmas.Result.{err_from_is_err_and}
+use Rattle.sif_export.specs.ExportText.{annotation_text}
+use Rattle.sif_export.proofs.LaidLemmas.{lays_closed, fails_open}
+use Rattle.sif_export.proofs.PieceLemmas.{gains_of}
+use Rattle.sif_export.proofs.elements.annotation_element.Goals as goal
+
+pub returns-in_err-annotation_words-clause-text : goal.returns-in_err-annotation_words-clause-text
+unfolding annotation_text
+returns-in_err-annotation_words-clause-text g c =
+    let p = err_from_is_err_and c.from_residual.result c.from_residual.ensures.1 in
+    rw p.1 (fails_open _ _ (annotation_text c.args.annotation.now) c.in_err-annotation_words.ensures.text)
+
+pub returns-clause-text : goal.returns-clause-text
+unfolding annotation_text
+returns-clause-text g c =
+    lays_closed _ _ _ _ _ _ _ c.in_ok-annotation_words.ensures.text (gains_of _ _ _ _ c.close.ensures.all c.close.ensures.part)
+
