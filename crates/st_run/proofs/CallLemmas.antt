@@ -109,15 +109,15 @@ module _ (outcome : Outcome) (T : Type 0) (out report report' : Option (List ℕ
   pub tells : (line : List ℕ) → line ≡ outcome.report → outcome.output ≡ [] → outcome.status ≢ 8 → outcome.status ≢ 9 → outcome.status ≢ 10
       → (status ≢ 9 → (status ≡ outcome.status) × (report' ≡ append_known report line)) → (outcome.status ≢ 9 → status ≡ 9 → GainsPrefix report report' line × T) → Finishes outcome ⊥ T out out report report' status
   tells line same quiet no8 no9 no10 whole part = elim (eqb_tells status 9) [
-      | inl at ↦ told_part quiet at.1 (part no9 at.1).1 (rw (← same) (part no9 at.1).0)
-      | inr other ↦ told_all quiet (whole other.1).0 ((whole other.1).1 ∙ ap (append_known report) same) no8 no9 no10
-    ]
+    | inl at ↦ told_part quiet at.1 (part no9 at.1).1 (rw (← same) (part no9 at.1).0)
+    | inr other ↦ told_all quiet (whole other.1).0 ((whole other.1).1 ∙ ap (append_known report) same) no8 no9 no10
+  ]
 
   pub tells_want : (status ≢ 9 → (status ≡ 10) × (report' ≡ append_known report memory_line)) → (◌≢◌ {A = ℕ} 10 9 → status ≡ 9 → GainsPrefix report report' memory_line × T) → Finishes outcome ⊥ T out out report report' status
   tells_want whole part = elim (eqb_tells status 9) [
-      | inl at ↦ stops_in_want at.1 (part (λ is. cc) at.1).1 refl (part (λ is. cc) at.1).0
-      | inr other ↦ wants (whole other.1).0 (record { wrote = refl; told = (whole other.1).1 })
-    ]
+    | inl at ↦ stops_in_want at.1 (part (λ is. cc) at.1).1 refl (part (λ is. cc) at.1).0
+    | inr other ↦ wants (whole other.1).0 (record { wrote = refl; told = (whole other.1).1 })
+  ]
 
 pub told_9_or_10 : (status : ℕ) (A : Type 0) → (status ≢ 9 → (status ≡ 10) × A) → (status ≡ 9) ⊎ (status ≡ 10)
 told_9_or_10 status A whole = elim (eqb_tells status 9) [ inl at ↦ inl at.1 | inr other ↦ inr (whole other.1).0 ]
@@ -227,9 +227,9 @@ module _ (c : Command) (left left' : Option (List ℕ)) (R W T : Type 0) (out ou
 
   pub fault_calls : (status ≢ 9 → (status ≡ 8) × (report' ≡ append_known report read_fault_line)) → (status ≡ 9 → GainsPrefix report report' read_fault_line × T) → R → IfSome left (λ file. LeavesOpen file left') → Calls (Some c) left left' R W T out out report report' status
   fault_calls whole part r opens = elim (eqb_tells status 9) [
-      | inl at ↦ stops_in_fault at.1 (part at.1).1 r refl (part at.1).0 tt
-      | inr other ↦ fails (whole other.1).0 (record { wrote = refl; told = (whole other.1).1 }) r tt opens
-    ]
+    | inl at ↦ stops_in_fault at.1 (part at.1).1 r refl (part at.1).0 tt
+    | inr other ↦ fails (whole other.1).0 (record { wrote = refl; told = (whole other.1).1 }) r tt opens
+  ]
 
 pub usage_calls : (command : Option Command) (left left' : Option (List ℕ)) (R W T : Type 0) (out report report' : Option (List ℕ)) (status : ℕ) → command ≡ None → Finishes (does None []) ⊥ T out out report report' status → Calls command left left' R W T out out report report' status
 usage_calls command left left' R W T out report report' status is f = finishes (does None []) (any_write (does None []) W T out out report report' status f) (rw is refl) (λ zero. absurd (not_0 (does None []) ⊥ T out out report report' status (λ two. cc) f zero))

@@ -11,6 +11,7 @@ use Rattle.st_words.specs.declared.command.Task.{Task}
 use Rattle.st_words.specs.declared.command.Task.TheVariants as task
 use Rattle.st_words.specs.declared.command.Command.{Command}
 use Rattle.st_answers.specs.Listing.{ok_line, listing}
+use Rattle.sif_export.specs.ExportText.{export_text}
 use Rattle.st_answers.specs.Shows.{Program, Shows, UnbuiltAt, program_of}
 
 -- the tasks that the program does today
@@ -18,7 +19,7 @@ abbrev pub is_there : Task → Bool
 is_there task.Run = true
 is_there task.Check = true
 is_there task.List = true
-is_there task.Export = false
+is_there task.Export = true
 is_there task.Gen = false
 
 abbrev pub if_there : Option Command → Option Command
@@ -98,7 +99,7 @@ abbrev pub of_units : Task → List unit.Unit → Outcome
 of_units task.Run us = runs (program_of us)
 of_units task.Check us = done (ok_line us)
 of_units task.List us = done (listing us)
-of_units task.Export us = done []
+of_units task.Export us = done (export_text us)
 of_units task.Gen us = done []
 
 -- the file is read, and refused at its first faulty element

@@ -3,11 +3,13 @@ ghost use Rattle.std.specs.Prelude.{◌≡◌, ◌≢◌, ◌⊎◌, ◌<◌, �
 ghost use Rattle.std.specs.Io.KnownBytes.{append_known};
 ghost use Rattle.st_base.specs.Streams.{Rose, GainsPrefix};
 ghost use Rattle.st_tree.specs.Numbers.{elements_in};
+ghost use Rattle.sif_export.specs.ExportText.{export_text};
 ghost use Rattle.st_run.specs.Commands.{Outcome, usage_line, done, refused, of_units, does};
 ghost use Rattle.st_run.specs.Headline.{Finishes, IsReported};
 
 use crate::report::{OUT_OF_MEMORY, USAGE, refusal};
 use crate::tasks::{Written, task_output};
+use sif_export::export;
 use st_base::{Place, Reason, Sink, put_all};
 use st_tree::units::Definition;
 use st_words::Task;
@@ -59,6 +61,16 @@ fn write_out<K: Sink>(out: &mut K, bytes: &[u8]) -> u8
     }
 }
 
+// Writes the canonical text, and answers the status 0, or that of a write fault.
+fn write_text<K: Sink>(out: &mut K, definition: &Definition) -> u8
+    ensures { (report : Option (List ℕ)) → Finishes (done (export_text definition.now.units)) (Rose (K.faults out.old) (K.faults out.new)) ⊥ (K.written out.old) (K.written out.new) report report result }
+{
+    match export(definition, out) {
+        Ok(()) => 0,
+        Err(_) => 9,
+    }
+}
+
 /// Does a task with a program that was read.
 pub(crate) fn perform<K: Sink, E: Sink>(
     alloc: Global,
@@ -72,6 +84,7 @@ pub(crate) fn perform<K: Sink, E: Sink>(
 {
     match task_output(alloc, task, definition) {
         Ok(Written::Output(bytes)) => write_out(out, bytes.as_slice()),
+        Ok(Written::Exported) => write_text(out, definition),
         Ok(Written::UnbuiltAt(element)) => {
             refuse(alloc, Place { element, byte: 0 }, Reason::Unbuilt, report)
         }

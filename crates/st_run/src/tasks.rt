@@ -11,11 +11,13 @@ use st_tree::units::Definition;
 use st_words::{Command, Task};
 use std::alloc::Global;
 
-/// What a task comes to.
+/// What a task writes.
 #[derive(Drop)]
 pub(crate) enum Written {
     /// These bytes.
     Output(Vec<u8>),
+    /// The program's canonical text.
+    Exported,
     /// Nothing: the program has an element that can't yet be run.
     UnbuiltAt(u32),
 }
@@ -25,8 +27,8 @@ fn is_there(task: Task) -> bool
     ensures { result ≡ is_there task }
 {
     match task {
-        Task::Run | Task::Check | Task::List => true,
-        Task::Export | Task::Gen => false,
+        Task::Run | Task::Check | Task::List | Task::Export => true,
+        Task::Gen => false,
     }
 }
 
@@ -55,7 +57,7 @@ pub(crate) fn command_of(alloc: Global, words: &[String]) -> Result<Option<Comma
 
 fn run(alloc: Global, definition: &Definition) -> Result<Written, OutOfMemory>
     requires { elements_in definition.now.units < 2 ^ 32 - 1 }
-    ensures { IfOk result (λ written. outcome_of written ≡ runs (program_of definition.now.units)) }
+    ensures { IfOk result (λ written. outcome_of definition.now.units written ≡ runs (program_of definition.now.units)) }
 {
     let mut out = Vec::new(alloc);
     match show_units(definition.units.as_slice(), &mut out)? {
@@ -71,12 +73,13 @@ pub(crate) fn task_output(
     definition: &Definition,
 ) -> Result<Written, OutOfMemory>
     requires { elements_in definition.now.units < 2 ^ 32 - 1 }
-    ensures { IfOk result (λ written. outcome_of written ≡ of_units task definition.now.units) }
+    ensures { IfOk result (λ written. outcome_of definition.now.units written ≡ of_units task definition.now.units) }
 {
     match task {
         Task::Run => run(alloc, definition),
         Task::Check => Ok(Written::Output(ok_line(alloc, definition)?)),
         Task::List => Ok(Written::Output(listing(alloc, definition.units.as_slice())?)),
-        Task::Export | Task::Gen => Ok(Written::Output(Vec::new(alloc))),
+        Task::Export => Ok(Written::Exported),
+        Task::Gen => Ok(Written::Output(Vec::new(alloc))),
     }
 }

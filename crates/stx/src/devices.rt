@@ -1,8 +1,9 @@
 // Standard input, output and error as a source and sinks. They tell none of their bytes.
 ghost use Rattle.std.specs.Prelude.{None};
 
-use st_base::{Failed, Sink, Source};
-use std::io::{Read, Write};
+use st_base::{Failed, OutOfMemory, Sink, Source};
+use std::alloc::Global;
+use std::io::{BufWriter, Read, Write};
 use std::rt::{Stderr, Stdin, Stdout};
 
 /// Standard input, with a count of its errors.
@@ -34,16 +35,31 @@ impl Source for StdSource {
     }
 }
 
-/// Standard output, with a count of its errors. A write that takes no bytes is one.
+/// How many bytes are gathered before standard output is called.
+const BLOCK: usize = 65_536;
+
+/// Standard output, with a count of its errors. Small writes are gathered to blocks. A write that
+/// takes no bytes is an error.
 #[derive(Drop)]
 pub struct StdOut {
-    output: Stdout,
+    output: BufWriter<Stdout>,
     faults: u64,
 }
 
 impl StdOut {
-    pub fn new(output: Stdout) -> StdOut {
-        StdOut { output, faults: 0 }
+    pub fn new(alloc: Global, output: Stdout) -> Result<StdOut, OutOfMemory> {
+        match BufWriter::with_capacity(alloc, BLOCK, output) {
+            Ok(output) => Ok(StdOut { output, faults: 0 }),
+            Err(_) => Err(OutOfMemory),
+        }
+    }
+
+    /// Writes what is still gathered.
+    pub fn finish(&mut self) -> Result<(), Failed> {
+        match self.output.flush() {
+            Ok(()) => Ok(()),
+            Err(_) => Err(Failed),
+        }
     }
 }
 
@@ -96,6 +112,7 @@ impl Sink for StdReport {
 mod tests {
     use super::*;
     use st_base::put_all;
+    use std::test::Fail;
 
     #[test]
     fn standard_input_gives_bytes_or_its_end(rt: HostRuntime) {
@@ -106,10 +123,12 @@ mod tests {
     }
 
     #[test]
-    fn standard_output_takes_bytes(rt: HostRuntime) {
-        let mut out = StdOut::new(rt.stdout());
+    fn standard_output_takes_bytes(rt: HostRuntime) -> Result<(), Fail> {
+        let mut out = StdOut::new(rt.alloc(), rt.stdout())?;
         assert!(rt; put_all(&mut out, b"out\n").is_ok());
+        assert!(rt; out.finish().is_ok());
         assert_eq!(rt; out.faults, 0);
+        Ok(())
     }
 
     #[test]

@@ -16,13 +16,23 @@ fn words(rt: &HostRuntime) -> io::Result<Vec<String>> {
     }
 }
 
+// What is still gathered is written; where that fails, nothing more is.
+fn finished(out: &mut StdOut, status: u8) -> u8 {
+    match out.finish() {
+        Ok(()) => status,
+        Err(_) => 9,
+    }
+}
+
 fn main(rt: HostRuntime) -> ExitCode {
     let mut source = StdSource::new(rt.stdin());
-    let mut out = StdOut::new(rt.stdout());
     let mut report = StdReport::new(rt.stderr());
-    let status = match words(&rt) {
-        Ok(words) => st_run::stx(rt.alloc(), &words, &mut source, &mut out, &mut report),
-        Err(_) => st_run::report_want_of_memory(&mut report),
+    let status = match (words(&rt), StdOut::new(rt.alloc(), rt.stdout())) {
+        (Ok(words), Ok(mut out)) => {
+            let status = st_run::stx(rt.alloc(), &words, &mut source, &mut out, &mut report);
+            finished(&mut out, status)
+        }
+        _ => st_run::report_want_of_memory(&mut report),
     };
     ExitCode::from(status)
 }
