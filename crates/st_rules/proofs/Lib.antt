@@ -11,3 +11,8 @@ pub mod UnwindingRuns
 pub mod SignalRuns
 pub mod PlainRuns
 pub mod BankRun
+pub mod SameProgram
+pub mod SameActions
+pub mod Transcripts
+pub mod LargerLimit
+pub mod LongerRun

@@ -13,4 +13,5 @@ pub mod Scoped
 pub mod Turns
 pub mod Followed
 pub mod SomeRun
+pub mod StepLimits
 pub mod Flat

@@ -4,7 +4,9 @@
 mod follows;
 mod one_run;
 mod some_run;
+mod step_limits;
 
 pub use follows::the_machine_follows_the_rules;
 pub use one_run::a_program_has_at_most_one_run;
 pub use some_run::a_program_has_a_run;
+pub use step_limits::a_larger_step_limit_only_extends_the_transcript;
