@@ -16,3 +16,4 @@ pub mod SameActions
 pub mod Transcripts
 pub mod LargerLimit
 pub mod LongerRun
+pub mod SameRows
