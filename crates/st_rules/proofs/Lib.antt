@@ -17,3 +17,4 @@ pub mod Transcripts
 pub mod LargerLimit
 pub mod LongerRun
 pub mod SameRows
+pub mod SameVisits

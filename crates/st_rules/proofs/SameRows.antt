@@ -536,4 +536,3 @@ module _ (p : Program) (s : Store) (cl : List Closure) (sc : List Scope) where
   loop_free : (m : LoopMessage) (r : Value) (args : List Value) → loop_action p other m r args ≡ relabeled cl sc (loop_action p s m r args)
   unfolding loop_action size_of
   loop_free m r args = grind arith
-
