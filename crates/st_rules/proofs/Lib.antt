@@ -18,3 +18,6 @@ pub mod LargerLimit
 pub mod LongerRun
 pub mod SameRows
 pub mod SameVisits
+pub mod Variables
+pub mod Flattening
+pub mod FlatControl

@@ -15,3 +15,5 @@ pub mod Followed
 pub mod SomeRun
 pub mod StepLimits
 pub mod Flat
+pub mod Compilable
+pub mod Flattened
