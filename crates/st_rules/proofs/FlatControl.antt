@@ -115,7 +115,7 @@ module _ (p : Program) (g : Places) where
   -- ---- closures
 
   -- a closure that both find
-  abbrev Both : List Scope → Option Closure → Option Closure → Type 0
+  abbrev pub Both : List Scope → Option Closure → Option Closure → Type 0
   Both ss None o = o ≡ None
   Both ss (Some c) o = (o ≡ Some (placed g.places c)) × ClosureHolds p ss c
 
@@ -129,7 +129,7 @@ module _ (p : Program) (g : Places) where
   both_after ss cs None h = refl
   both_after ss cs (Some k) h = subst (λ o. Both ss (slice_get cs k) o) (sym (slice_get-map (placed g.places) cs k)) (closure_held ss cs k (slice_get cs k) h refl)
 
-  both_of : (s : Store) (v : Value) → ClosuresHold p s.scopes s.closures → Both s.scopes (closure_of s v) (closure_of (flat_store g s) v)
+  pub both_of : (s : Store) (v : Value) → ClosuresHold p s.scopes s.closures → Both s.scopes (closure_of s v) (closure_of (flat_store g s) v)
   unfolding closure_of
   both_of s (Object n) h = both_after s.scopes s.closures (object_at n s).closure h
   both_of s v h = refl

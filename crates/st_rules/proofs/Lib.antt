@@ -21,3 +21,5 @@ pub mod SameVisits
 pub mod Variables
 pub mod Flattening
 pub mod FlatControl
+pub mod FlatSends
+pub mod FlatScopes

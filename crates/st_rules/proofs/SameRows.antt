@@ -1,7 +1,7 @@
 -- What a message does at once reads neither scopes nor closures, and leaves them as they are: only the messages of Blocks do.
 use Rattle.std.proofs.Common.{◌≡◌, ℕ, zero, suc, ◌+◌, ℤ, pos, nat_abs, nat_eq, ◌&&◌, if◌then◌else◌, List, [], ◌∷◌, Option, Some, None, Bool, true, false, refl, ap, arith}
 use Rattle.object_heap.specs.declared.value.Value.{Value}
-use Rattle.object_heap.specs.declared.value.Value.TheVariants.{Integer, Symbol, Object}
+use Rattle.object_heap.specs.declared.value.Value.TheVariants.{Nil, Integer, Symbol, Object}
 use Rattle.object_heap.specs.declared.value.Closure.{Closure}
 use Rattle.object_heap.specs.declared.trouble.Trouble.TheVariants.{IndexOutOfRange, NumberExpected}
 use Rattle.object_heap.specs.Store.{Store, Scope, object_at, with_slot, with_byte}
@@ -9,7 +9,7 @@ use Rattle.st_code.specs.Program.{Program, Indexed, NoIndexes, ByObject, ByByte}
 use Rattle.st_code.specs.BuiltIns.{string_class, byte_array_class, interval_class}
 use Rattle.st_code.specs.Lookup.{level_of, class_of, is_exception, is_plain, fits}
 use Rattle.st_code.specs.Messages.{Control, ObjectMessage, ClassMessage, NumberMessage, CharacterMessage, StringMessage, SequenceMessage, ExceptionMessage, LoopMessage, BooleanMessage, CollectionMessage, TranscriptMessage}
-use Rattle.st_collections.specs.Actions.{first, second, Action, Changes, Makes, Fails, PassesIntegers, Raises, with_new, makes_slots, makes_bytes, makes_string, makes_blank}
+use Rattle.st_collections.specs.Actions.{Activates, Enters, Gives, first, second, Action, Changes, Makes, Fails, PassesIntegers, Raises, with_new, makes_slots, makes_bytes, makes_string, makes_blank}
 use Rattle.st_collections.specs.Kinds.{interval_size, is_a, bytes_of, slots_of, slot_of, size_of, element, some_elements, elements, is_sequence, is_collection, species, print_text, exception_text}
 use Rattle.st_collections.specs.ObjectRows.{indexed, index_in, byte_put, object_action, class_action, boolean_action}
 use Rattle.st_collections.specs.TextRows.{with_character, character_action, string_action, transcript_action}
@@ -23,10 +23,13 @@ use Rattle.st_rules.specs.ExceptionRows.{exception_action}
 abbrev pub with_rest : List Closure → List Scope → Store → Store
 with_rest cl sc s = record { objects = s.objects; closures = cl; scopes = sc }
 
+-- an action with other closures and scopes; no row but those of Blocks activates a closure, and none enters a method
 abbrev pub relabeled : List Closure → List Scope → Action → Action
 relabeled cl sc (Changes s v) = Changes (with_rest cl sc s) v
 relabeled cl sc (Makes n s v) = Makes n (with_rest cl sc s) v
 relabeled cl sc (Raises s e) = Raises (with_rest cl sc s) e
+relabeled cl sc (Activates c args) = Gives Nil
+relabeled cl sc (Enters code r args) = Gives Nil
 relabeled cl sc a = a
 
 -- an Interval, and what is written at an index, as the rows have them
@@ -174,7 +177,7 @@ module _ (p : Program) (s : Store) (cl : List Closure) (sc : List Scope) where
   unfolding object_action
   object_at_put n args = kind_by _ _ _ _ _ _ _ refl (indexed_by (first args) _ _ _ (λ i. refl)) (indexed_by (first args) _ _ _ (λ i. byte_put_free n i (second args)))
 
-  object_free : (m : ObjectMessage) (r : Value) (args : List Value) → object_action p other m r args ≡ relabeled cl sc (object_action p s m r args)
+  pub object_free : (m : ObjectMessage) (r : Value) (args : List Value) → object_action p other m r args ≡ relabeled cl sc (object_action p s m r args)
   unfolding object_action class_of level_of bytes_of print_text is_a slots_of slot_of with_new makes_slots makes_bytes makes_string makes_blank
   object_free ObjectMessage.RespondsTo r args = object_responds_to r args
   object_free ObjectMessage.Copy r args = object_copy r args
@@ -295,7 +298,7 @@ module _ (p : Program) (s : Store) (cl : List Closure) (sc : List Scope) where
   unfolding number_action ratio_of is_a slots_of slot_of
   number_subtract r args = number_by (ratio_of s (first args)) _ _ (λ b. sum_free _)
 
-  number_free : (m : NumberMessage) (r : Value) (args : List Value) → number_action p other m r args ≡ relabeled cl sc (number_action p s m r args)
+  pub number_free : (m : NumberMessage) (r : Value) (args : List Value) → number_action p other m r args ≡ relabeled cl sc (number_action p s m r args)
   unfolding number_action ratio_of is_a slots_of slot_of print_text with_new makes_slots makes_bytes makes_string
   number_free NumberMessage.Multiply r args = number_multiply r args
   number_free NumberMessage.Divide r args = number_divide r args
@@ -362,7 +365,7 @@ module _ (p : Program) (s : Store) (cl : List Closure) (sc : List Scope) where
   unfolding sequence_action with_new makes_slots makes_bytes
   sequence_as_ordered_collection r args = grind (arith, elements_free, species_free, makes_sequence_free)
 
-  sequence_free : (m : SequenceMessage) (r : Value) (args : List Value) → sequence_action p other m r args ≡ relabeled cl sc (sequence_action p s m r args)
+  pub sequence_free : (m : SequenceMessage) (r : Value) (args : List Value) → sequence_action p other m r args ≡ relabeled cl sc (sequence_action p s m r args)
   unfolding sequence_action size_of element species with_new makes_slots makes_bytes
   sequence_free SequenceMessage.First r args = sequence_first r args
   sequence_free SequenceMessage.Last r args = sequence_last r args
@@ -423,7 +426,7 @@ module _ (p : Program) (s : Store) (cl : List Closure) (sc : List Scope) where
   unfolding collection_action without_element
   collection_remove_at n args = indexed_by (first args) _ _ _ (λ i. refl)
 
-  collection_free : (m : CollectionMessage) (r : Value) (args : List Value) → collection_action p other m r args ≡ relabeled cl sc (collection_action p s m r args)
+  pub collection_free : (m : CollectionMessage) (r : Value) (args : List Value) → collection_action p other m r args ≡ relabeled cl sc (collection_action p s m r args)
   unfolding collection_action with_elements without_element with_new makes_slots makes_bytes
   collection_free CollectionMessage.NewArray r args = collection_new_array r args
   collection_free CollectionMessage.NewByteArray r args = collection_new_byte_array r args
@@ -495,7 +498,7 @@ module _ (p : Program) (s : Store) (cl : List Closure) (sc : List Scope) where
   unfolding exception_action is_plain is_exception fits level_of exception_text bytes_of class_of is_a slots_of slot_of with_new makes_slots makes_bytes makes_string makes_blank
   exception_answers_nil r args = grind arith
 
-  exception_free : (m : ExceptionMessage) (r : Value) (args : List Value) → exception_action p other m r args ≡ relabeled cl sc (exception_action p s m r args)
+  pub exception_free : (m : ExceptionMessage) (r : Value) (args : List Value) → exception_action p other m r args ≡ relabeled cl sc (exception_action p s m r args)
   unfolding exception_action is_plain is_exception fits level_of exception_text bytes_of class_of is_a slots_of slot_of with_new makes_slots makes_bytes makes_string makes_blank
   exception_free ExceptionMessage.New r args = exception_new r args
   exception_free ExceptionMessage.SignalNew r args = exception_signal_new r args
@@ -513,26 +516,26 @@ module _ (p : Program) (s : Store) (cl : List Closure) (sc : List Scope) where
   exception_free ExceptionMessage.AnswersNil r args = exception_answers_nil r args
   exception_free m r args = refl
 
-  class_free : (m : ClassMessage) (r : Value) (args : List Value) → class_action p other m r args ≡ relabeled cl sc (class_action p s m r args)
+  pub class_free : (m : ClassMessage) (r : Value) (args : List Value) → class_action p other m r args ≡ relabeled cl sc (class_action p s m r args)
   unfolding class_action with_new makes_slots makes_bytes makes_string makes_blank
   class_free m r args = grind arith
 
-  boolean_free : (m : BooleanMessage) (r : Value) (args : List Value) → boolean_action m r args ≡ relabeled cl sc (boolean_action m r args)
+  pub boolean_free : (m : BooleanMessage) (r : Value) (args : List Value) → boolean_action m r args ≡ relabeled cl sc (boolean_action m r args)
   unfolding boolean_action
   boolean_free m r args = grind arith
 
-  character_free : (m : CharacterMessage) (r : Value) (args : List Value) → character_action other m r args ≡ relabeled cl sc (character_action s m r args)
+  pub character_free : (m : CharacterMessage) (r : Value) (args : List Value) → character_action other m r args ≡ relabeled cl sc (character_action s m r args)
   unfolding character_action with_new makes_bytes makes_string
   character_free m r args = grind arith
 
-  transcript_free : (m : TranscriptMessage) (r : Value) (args : List Value) → transcript_action p other m r args ≡ relabeled cl sc (transcript_action p s m r args)
+  pub transcript_free : (m : TranscriptMessage) (r : Value) (args : List Value) → transcript_action p other m r args ≡ relabeled cl sc (transcript_action p s m r args)
   unfolding transcript_action bytes_of
   transcript_free m r args = grind arith
 
-  string_free : (m : StringMessage) (r : Value) (args : List Value) → string_action p other m r args ≡ relabeled cl sc (string_action p s m r args)
+  pub string_free : (m : StringMessage) (r : Value) (args : List Value) → string_action p other m r args ≡ relabeled cl sc (string_action p s m r args)
   unfolding string_action bytes_of with_new makes_bytes makes_string
   string_free m r args = grind arith
 
-  loop_free : (m : LoopMessage) (r : Value) (args : List Value) → loop_action p other m r args ≡ relabeled cl sc (loop_action p s m r args)
+  pub loop_free : (m : LoopMessage) (r : Value) (args : List Value) → loop_action p other m r args ≡ relabeled cl sc (loop_action p s m r args)
   unfolding loop_action size_of
   loop_free m r args = grind arith
