@@ -23,3 +23,4 @@ pub mod Flattening
 pub mod FlatControl
 pub mod FlatSends
 pub mod FlatScopes
+pub mod FlatVariables
