@@ -24,3 +24,4 @@ pub mod FlatControl
 pub mod FlatSends
 pub mod FlatScopes
 pub mod FlatVariables
+pub mod FlatCode
