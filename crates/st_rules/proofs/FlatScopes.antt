@@ -137,7 +137,7 @@ module _ (p : Program) where
   -- ---- a new scope
 
   module _ (ss : List Scope) (pl : List (Option ℕ)) (fs : List Scope) (owners : List ℕ) (held : ScopesHold p ss pl fs owners) (x : Scope) where
-    abbrev more : List Scope
+    abbrev pub more : List Scope
     more = ss ++ x ∷ []
 
     pub more_old : (m : ℕ) → m < length ss → scope_of more m ≡ scope_of ss m
@@ -199,10 +199,10 @@ module _ (p : Program) where
   -- ---- a written variable
 
   module _ (ss : List Scope) (pl : List (Option ℕ)) (fs : List Scope) (owners : List ℕ) (held : ScopesHold p ss pl fs owners) (n : ℕ) (there : n < length ss) (index : ℕ) (v : Value) where
-    abbrev old : Scope
+    abbrev pub old : Scope
     old = scope_of ss n
 
-    abbrev wrote : List Scope
+    abbrev pub wrote : List Scope
     wrote = set ss n (variable_written index v old)
 
     pub wrote_here : scope_of wrote n ≡ variable_written index v old
@@ -247,10 +247,10 @@ module _ (p : Program) where
     captured_at e = subst (λ c. PlacedAt p c pl fs owners n old) (some_captured (captured p old.code) index e) (held.each n there).at
 
     module _ (e : is_captured (captured p old.code) index ≡ true) where
-      abbrev kept_in : ℕ
+      abbrev pub kept_in : ℕ
       kept_in = (captured_at e).0
 
-      abbrev flat_wrote : List Scope
+      abbrev pub flat_wrote : List Scope
       flat_wrote = set fs kept_in (variable_written (captured_place index (captured p old.code)) v (scope_of fs kept_in))
 
       wrote_at : PlacedAt p true pl flat_wrote owners n (variable_written index v old)

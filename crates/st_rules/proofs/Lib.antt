@@ -25,3 +25,5 @@ pub mod FlatSends
 pub mod FlatScopes
 pub mod FlatVariables
 pub mod FlatCode
+pub mod FlatBodies
+pub mod FlatOpened
