@@ -1,19 +1,21 @@
 -- A body that is opened on both machines: its captured variables go to a new scope of the flat one, the others are its first operands.
-use Rattle.std.proofs.Common.{◌≡◌, ℕ, ◌+◌, ◌-◌, ◌<◌, max, List, [], ◌∷◌, ◌++◌, length, reverse, Option, Some, None, Bool, true, false, refl, sym, ap, ◌∙◌, subst, arith, nat_lt, nat_le, if◌then◌else◌}
-use Rattle.object_heap.specs.Store.{Scope}
+use Rattle.std.proofs.Common.{◌≡◌, ℕ, zero, suc, ◌+◌, ◌-◌, ◌<◌, ◌≤◌, max, List, [], ◌∷◌, ◌++◌, map, length, get_or, reverse, Option, Some, None, Bool, true, false, refl, sym, ap, ◌∙◌, subst, arith, nat_lt, nat_le, if◌then◌else◌}
+use Rattle.object_heap.specs.Store.{Store, Scope, no_scope, scope_added}
 use Rattle.st_code.specs.Program.{Program, body_at}
-use Rattle.st_code.specs.Compiled.{Compiled, compile_of}
-use Rattle.st_rules.specs.State.{State, StepLimit, DepthLimit, CellLimit, step_made, stood, used, first_variables}
-use Rattle.st_rules.specs.Ends.{charged, Opening}
-use Rattle.st_rules.specs.Machine.{Act, Mach, Run, marks, stopped}
-use Rattle.st_rules.specs.Scoped.{ScopedBody, scoped_number, scoped_opened}
-use Rattle.st_rules.specs.Flat.{FlatBody, flat_number, own_variables, greatest_width}
+use Rattle.st_code.specs.Compiled.{Compiled, any_captured, compiled_body, compile_of}
+use Rattle.st_rules.specs.State.{State, Limit, StepLimit, DepthLimit, CellLimit, step_made, stood, used, scope_cells, first_variables, with_scope}
+use Rattle.st_rules.specs.Ends.{charged, Opening, with_opened}
+use Rattle.st_rules.specs.Machine.{Act, Mach, Run, Bodies, marks, stopped, open_act}
+use Rattle.st_rules.specs.Scoped.{ScopedBody, scoped_number, scoped, scoped_opened}
+use Rattle.st_rules.specs.Flat.{FlatBody, flat_number, own_variables, captured_variables, code_at, greatest_width, flat_opened, flat_opened_store}
+use Rattle.st_rules.specs.Flattened.{flat_of}
 use Rattle.st_rules.specs.Compilable.{Compilable}
+use Rattle.st_rules.proofs.Variables.{first_size}
 use Rattle.st_rules.proofs.SameRows.{with_rest}
-use Rattle.st_rules.proofs.Flattening.{Places, scope_of, place_of, captured, whole, own_of, flat_closures, flat_state, flat_acts, running_body, Chained, ScopesHold, StoreHolds, BodyHolds, Goes, marks_same}
+use Rattle.st_rules.proofs.Flattening.{Places, scope_of, place_of, captured, whole, own_of, placed, flat_closures, flat_store, flat_state, flat_acts, running_body, Chained, flat_scope_of, ScopesHold, StoreHolds, BodyHolds, Goes, marks_same}
 use Rattle.st_rules.proofs.FlatControl.{Holds}
-use Rattle.st_rules.proofs.FlatScopes.{Agree, acts_agree, closures_agree, more_old, more_last, place_old, place_last, more_size}
-use Rattle.st_rules.proofs.FlatCode.{room_for}
+use Rattle.st_rules.proofs.FlatScopes.{Agree, acts_agree, closures_agree, more_old, more_last, place_old, place_last, more_size, new_captured, new_uncaptured}
+use Rattle.st_rules.proofs.FlatCode.{code_is, room_for}
 
 module _ (p : Program) (g : Places) where
   abbrev codes : List Compiled
@@ -143,3 +145,29 @@ module _ (p : Program) (g : Places) where
     store_more place fs' owners' scopes =
         let cs = closures_agree p ss more pl (pl ++ place ∷ []) st.store.closures (omega (arith, old_size)) (λ m l. ((agrees place m l).1, (agrees place m l).2)) h.0.closures in
         record { scopes = scopes; closures = cs.1 }
+
+    -- what the flat machine opens, by what its code captures
+    abbrev flat_open : Compiled → Bool → State → Mach FlatBody
+    flat_open c some s =
+        Run (opened_at c.captured (if some then Some (length s.store.scopes) else place_of pl x.outer)) (Fa st acts)
+            (record s { store = if some then scope_added (record { code = x.code; outer = place_of pl x.outer; variables = captured_variables c.captured (first_variables c.captured x.arguments) }) s.store else s.store })
+
+    opened_by : (some : Bool) → any_captured (captured p x.code) ≡ some → Goes p (flat_open (compiled_body p x.code (body_at p x.code)) some (Fs st)) (Run (scoped_opened p kind_right st.store) acts (record st { store = record { objects = st.store.objects; closures = st.store.closures; scopes = more } }))
+    unfolding compiled_body
+    opened_by true e =
+        let fs' = g.scopes ++ flat_scope_of p pl scope ∷ [] in
+        let owners' = g.owners ++ length ss ∷ [] in
+        opened_with (Some (length g.scopes)) fs' owners' (store_more (Some (length g.scopes)) fs' owners' (new_captured p ss pl g.scopes g.owners h.0.scopes scope e (first_size (captured p x.code) x.arguments) chained))
+    opened_by false e =
+        opened_with (place_of pl x.outer) g.scopes g.owners (store_more (place_of pl x.outer) g.scopes g.owners (new_uncaptured p ss pl g.scopes g.owners h.0.scopes scope e (first_size (captured p x.code) x.arguments) chained))
+
+    opened_law : Goes p (Run (flat_opened p codes room (placed_opening kind_right) (flat_store g st.store)) (Fa st acts) (record (Fs st) { store = flat_opened_store p codes room (placed_opening kind_right) (flat_store g st.store) })) (Run (scoped_opened p kind_right st.store) acts (record st { store = with_opened p kind_right st.store }))
+    unfolding with_opened with_scope compiled_body
+    opened_law =
+        subst (λ c. Goes p (flat_open c (any_captured c.captured) (Fs st)) (Run (scoped_opened p kind_right st.store) acts (record st { store = record { objects = st.store.objects; closures = st.store.closures; scopes = more } }))) (sym (code_is p x.code known))
+        (opened_by (any_captured (captured p x.code)) refl)
+
+  pub open_goes : Compilable p → (x : Opening) (acts : List (Act ScopedBody)) (st : State) → Holds p g st acts → OpeningHolds st.store.scopes x → Goes p (open_act (flat_of p) p (placed_opening x) (Fa st acts) (Fs st)) (open_act (scoped p) p x acts st)
+  open_goes ok x acts st h o =
+      subst (λ k. Goes p (open_act (flat_of p) p (placed_opening (record x { kind = k })) (Fa st acts) (Fs st)) (open_act (scoped p) p (record x { kind = k }) acts st)) o.is_kind
+      (stood_goes acts st _ _ (λ d n. used_goes (scope_cells (body_at p x.code)) acts _ _ _ (λ c. opened_law ok x acts (record st { depth = d; next = n; cells = c }) h o.known o.chained)))

@@ -27,3 +27,4 @@ pub mod FlatVariables
 pub mod FlatCode
 pub mod FlatBodies
 pub mod FlatOpened
+pub mod FlatRun
