@@ -150,7 +150,7 @@ module _ (p : Program) (g : Places) where
     abbrev flat_open : Compiled → Bool → State → Mach FlatBody
     flat_open c some s =
         Run (opened_at c.captured (if some then Some (length s.store.scopes) else place_of pl x.outer)) (Fa st acts)
-            (record s { store = if some then scope_added (record { code = x.code; outer = place_of pl x.outer; variables = captured_variables c.captured (first_variables c.captured x.arguments) }) s.store else s.store })
+        (record s { store = if some then scope_added (record { code = x.code; outer = place_of pl x.outer; variables = captured_variables c.captured (first_variables c.captured x.arguments) }) s.store else s.store })
 
     opened_by : (some : Bool) → any_captured (captured p x.code) ≡ some → Goes p (flat_open (compiled_body p x.code (body_at p x.code)) some (Fs st)) (Run (scoped_opened p kind_right st.store) acts (record st { store = record { objects = st.store.objects; closures = st.store.closures; scopes = more } }))
     unfolding compiled_body

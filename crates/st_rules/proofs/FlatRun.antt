@@ -42,7 +42,7 @@ module _ (p : Program) (ok : Compilable p) where
   chained_block : (ss : List Scope) (o outer : Option ℕ) (k : ℕ) → k < length ss → outer ≡ Some k → o ≡ Some (scope_of ss k).code → Chained p ss (length ss) o outer
   chained_block ss o outer k l e same = subst (λ x. Chained p ss (length ss) x outer) (sym same) (k, e, l, refl)
 
-  chained_none : (ss : List Scope) (o : Option ℕ) → o ≡ None → Chained p ss (length ss) o None
+  pub chained_none : (ss : List Scope) (o : Option ℕ) → o ≡ None → Chained p ss (length ss) o None
   chained_none ss o same = subst (λ x. Chained p ss (length ss) x None) (sym same) refl
 
   begin_goes : (g : Places) (u : Use) (acts : List (Act ScopedBody)) (st : State) → Holds p g st acts → UseHolds p st.store.closures st.store.scopes u → Goes p (begin F p (flat_use p g st.store.closures u) (Fa g st acts) (flat_state g st)) (begin S p u acts st)
@@ -111,7 +111,7 @@ module _ (p : Program) (ok : Compilable p) where
   gives g v (HandlesWait n x entry rest) acts st held h = control_gives p g v (HandlesWait n x entry rest) acts st (held, h) tt
   gives g v (LoopAct n l env) acts st held h = control_gives p g v (LoopAct n l env) acts st (held, h) tt
 
-  step_law : (g : Places) (m' : Mach FlatBody) (m : Mach ScopedBody) → Follows p g m' m → Goes p (step F p m') (step S p m)
+  pub step_law : (g : Places) (m' : Mach FlatBody) (m : Mach ScopedBody) → Follows p g m' m → Goes p (step F p m') (step S p m)
   step_law g m' (Run x acts st) h = subst (λ y. Goes p (step F p y) (step S p (Run x acts st))) (sym h.0) (run_goes g x acts st h.1 h.2 h.3)
   step_law g m' (Settle (Answer v) [] st) h = subst (λ y. Goes p (step F p y) (Over (Answer v) st)) (sym h.0) (g, (refl, h.1.0))
   step_law g m' (Settle (Answer v) (a ∷ acts) st) h = subst (λ y. Goes p (step F p y) (give S p v a acts st)) (sym h.0) (g, gives g v a acts st h.1.0 h.1.1)

@@ -28,3 +28,4 @@ pub mod FlatCode
 pub mod FlatBodies
 pub mod FlatOpened
 pub mod FlatRun
+pub mod FlatTop

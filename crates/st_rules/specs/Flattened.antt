@@ -25,8 +25,12 @@ pub record EndsAlike (p : Program) (n : ℕ) (e : Ending) (st : State) : Type 0 
   pub alike : Alike st state
   pub counted : instructions (flat_of p) p n (opened_run (flat_of p) p) ≡ instructions (scoped p) p n (opened_run (scoped p) p)
 
--- where the scoped machine ends a compilable program, the flat one ends it alike; `Stuck` comes never
+-- where the scoped machine ends a compilable program, the flat one ends it alike
 abbrev pub FlatFollows : Type 0
 FlatFollows =
     (p : Program) → Compilable p → (n : ℕ) (e : Ending) (st : State) → top_iter (scoped p) p n (opened_run (scoped p) p) ≡ Ended e st →
     (e ≡ Stuck → ⊥) → EndsAlike p n e st
+
+-- and so where the rules end it, the flat machine ends it alike
+abbrev pub FlatFollowsTheRules : Type 0
+FlatFollowsTheRules = (p : Program) → Compilable p → (e : Ending) (st : State) → Runs p e st → (e ≡ Stuck → ⊥) → (n : ℕ) × EndsAlike p n e st
