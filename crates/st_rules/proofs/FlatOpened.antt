@@ -1,18 +1,18 @@
 -- A body that is opened on both machines: its captured variables go to a new scope of the flat one, the others are its first operands.
-use Rattle.std.proofs.Common.{◌≡◌, ℕ, zero, suc, ◌+◌, ◌-◌, ◌<◌, ◌≤◌, max, List, [], ◌∷◌, ◌++◌, map, length, get_or, reverse, Option, Some, None, Bool, true, false, refl, sym, ap, ◌∙◌, subst, arith, nat_lt, nat_le, if◌then◌else◌}
-use Rattle.object_heap.specs.Store.{Store, Scope, no_scope, scope_added}
+use Rattle.std.proofs.Common.{◌≡◌, ℕ, ◌+◌, ◌-◌, ◌<◌, max, List, [], ◌∷◌, ◌++◌, length, reverse, Option, Some, None, Bool, true, false, refl, sym, ap, ◌∙◌, subst, arith, nat_lt, nat_le, if◌then◌else◌}
+use Rattle.object_heap.specs.Store.{Scope, scope_added}
 use Rattle.st_code.specs.Program.{Program, body_at}
 use Rattle.st_code.specs.Compiled.{Compiled, any_captured, compiled_body, compile_of}
-use Rattle.st_rules.specs.State.{State, Limit, StepLimit, DepthLimit, CellLimit, step_made, stood, used, scope_cells, first_variables, with_scope}
+use Rattle.st_rules.specs.State.{State, StepLimit, DepthLimit, CellLimit, step_made, stood, used, scope_cells, first_variables, with_scope}
 use Rattle.st_rules.specs.Ends.{charged, Opening, with_opened}
-use Rattle.st_rules.specs.Machine.{Act, Mach, Run, Bodies, marks, stopped, open_act}
+use Rattle.st_rules.specs.Machine.{Act, Mach, Run, marks, stopped, open_act}
 use Rattle.st_rules.specs.Scoped.{ScopedBody, scoped_number, scoped, scoped_opened}
-use Rattle.st_rules.specs.Flat.{FlatBody, flat_number, own_variables, captured_variables, code_at, greatest_width, flat_opened, flat_opened_store}
+use Rattle.st_rules.specs.Flat.{FlatBody, flat_number, own_variables, captured_variables, greatest_width, flat_opened, flat_opened_store}
 use Rattle.st_rules.specs.Flattened.{flat_of}
 use Rattle.st_rules.specs.Compilable.{Compilable}
 use Rattle.st_rules.proofs.Variables.{first_size}
 use Rattle.st_rules.proofs.SameRows.{with_rest}
-use Rattle.st_rules.proofs.Flattening.{Places, scope_of, place_of, captured, whole, own_of, placed, flat_closures, flat_store, flat_state, flat_acts, running_body, Chained, flat_scope_of, ScopesHold, StoreHolds, BodyHolds, Goes, marks_same}
+use Rattle.st_rules.proofs.Flattening.{Places, scope_of, place_of, captured, whole, own_of, flat_closures, flat_store, flat_state, flat_acts, running_body, Chained, flat_scope_of, ScopesHold, StoreHolds, BodyHolds, Goes, marks_same}
 use Rattle.st_rules.proofs.FlatControl.{Holds}
 use Rattle.st_rules.proofs.FlatScopes.{Agree, acts_agree, closures_agree, more_old, more_last, place_old, place_last, more_size, new_captured, new_uncaptured}
 use Rattle.st_rules.proofs.FlatCode.{code_is, room_for}

@@ -1,27 +1,23 @@
 -- The flat machine follows the scoped one: a law for each small step, and so for a whole run.
-use Rattle.std.proofs.Common.{◌≡◌, ℕ, zero, suc, ◌+◌, ◌<◌, List, [], ◌∷◌, length, Option, Some, None, Bool, true, false, refl, sym, ap, ◌∙◌, subst, arith}
+use Rattle.std.proofs.Common.{◌≡◌, ℕ, ◌<◌, List, [], ◌∷◌, length, Option, Some, None, refl, sym, ap, ◌∙◌, subst}
 use Rattle.object_heap.specs.declared.value.Value.{Value}
-use Rattle.object_heap.specs.declared.value.Closure.{Closure}
-use Rattle.object_heap.specs.Store.{Store, Scope}
-use Rattle.st_code.specs.Program.{Program, Kind, InMethod, InBlock, InInitializer, Initializer, body_at}
+use Rattle.object_heap.specs.Store.{Scope}
+use Rattle.st_code.specs.Program.{Program, body_at}
 use Rattle.st_code.specs.Code.{Instr}
-use Rattle.st_code.specs.Compiled.{Compiled, instruction_of, compile_of}
-use Rattle.st_rules.specs.State.{State, Env, Outcome, Answer, Go, Stop, Frame, is_live}
-use Rattle.st_rules.specs.Sends.{send_action, super_action}
-use Rattle.st_rules.specs.Ends.{Opening, block_opening, method_opening, initializer_opening, asks_nested}
+use Rattle.st_code.specs.Compiled.{Compiled, compile_of}
+use Rattle.st_rules.specs.State.{State, Env, Answer, Go, Stop, Frame, is_live}
+use Rattle.st_rules.specs.Ends.{block_opening, method_opening, asks_nested}
 use Rattle.st_rules.specs.Rules.{Use, Apply, Activate, Enter, SendTo, SuperTo, Perform, Raise, RaiseNew, SignalPoint, Resignaled, SearchIn, TurnBy, Ask, Protect, Finish, VisitBy, RunBody, closure_for}
-use Rattle.st_rules.specs.Runs.{Ending, Done, Stuck as Stranded, Runs, first_state, kept_value, end_of}
-use Rattle.st_rules.specs.Machine.{Act, BodyAct, Leaving, ProtectAct, EnsureOn, CurtailOn, ActionOff, SignalAct, HandlerRun, OuterAct, ResumeWait, HandlesWait, LoopAct, Mach, Run, Settle, Begin, Over, Stuck, Bodies, marks, raise_act, begin, give, settle, step}
-use Rattle.st_rules.specs.Scoped.{ScopedBody, scoped_body, scoped_number, scoped, next_instr, no_instruction}
-use Rattle.st_rules.specs.Flat.{FlatBody, instruction_at, flat_instruct, flat_instruction, flat_next, greatest_width}
-use Rattle.st_rules.specs.Turns.{Top, On, Ended, open_next, top_step, top_iter, opened_run, runs_of, instructions}
-use Rattle.st_rules.specs.Compilable.{Body, AllInitializers, Compilable}
-use Rattle.st_rules.specs.Flattened.{flat_of, EndsAlike, FlatFollows}
-use Rattle.st_rules.proofs.Flattening.{Places, scope_of, number_in, flat_closures, flat_store, flat_state, flat_act, flat_acts, running_body, flat_use, flat_action, Chained, ScopesHold, ClosureHolds, StoreHolds, BodyHolds, ActsHold, UseHolds, Follows, Goes, marks_same, unwound, behind}
-use Rattle.st_rules.proofs.FlatControl.{Holds, stood_follows, settles, both_for, apply_follows, raise_follows, raise_new_follows, search_follows, turn_follows, visit_follows, perform_follows, control_gives, unwinds}
+use Rattle.st_rules.specs.Machine.{Act, BodyAct, Leaving, ProtectAct, EnsureOn, CurtailOn, ActionOff, SignalAct, HandlerRun, OuterAct, ResumeWait, HandlesWait, LoopAct, Mach, Run, Settle, Begin, Over, Stuck, Bodies, marks, raise_act, begin, give, step}
+use Rattle.st_rules.specs.Scoped.{ScopedBody, scoped_body, scoped_number, scoped, next_instr}
+use Rattle.st_rules.specs.Flat.{FlatBody, flat_instruct, flat_next, greatest_width}
+use Rattle.st_rules.specs.Compilable.{Compilable}
+use Rattle.st_rules.specs.Flattened.{flat_of}
+use Rattle.st_rules.proofs.Flattening.{Places, scope_of, number_in, flat_store, flat_state, flat_act, flat_acts, running_body, flat_use, Chained, StoreHolds, BodyHolds, ActsHold, UseHolds, Follows, Goes, marks_same, behind}
+use Rattle.st_rules.proofs.FlatControl.{Holds, stood_follows, both_for, apply_follows, raise_follows, raise_new_follows, search_follows, turn_follows, visit_follows, perform_follows, control_gives, unwinds}
 use Rattle.st_rules.proofs.FlatSends.{send_same, super_same}
 use Rattle.st_rules.proofs.FlatBodies.{body_gives, fetched, instr_law}
-use Rattle.st_rules.proofs.FlatOpened.{step_goes, OpeningHolds, open_goes}
+use Rattle.st_rules.proofs.FlatOpened.{step_goes, open_goes}
 
 module _ (p : Program) (ok : Compilable p) where
   abbrev F : Bodies FlatBody

@@ -1,19 +1,19 @@
 -- A whole run: the flat machine goes through the initializers as the scoped one does, and ends as it ends.
-use Rattle.std.proofs.Common.{◌≡◌, ℕ, zero, suc, ◌+◌, ◌<◌, ◌⊎◌, inl, inr, List, [], ◌∷◌, length, Option, Some, None, refl, sym, ap, ◌∙◌, subst, arith}
+use Rattle.std.proofs.Common.{◌≡◌, ℕ, zero, suc, ◌+◌, ◌⊎◌, inl, inr, List, [], ◌∷◌, Option, Some, None, refl, sym, ap, ◌∙◌, subst, arith}
 use Rattle.object_heap.specs.declared.value.Value.{Value}
-use Rattle.st_code.specs.Program.{Program, InInitializer, Initializer, body_at}
-use Rattle.st_rules.specs.State.{State, Outcome, Answer, Go, Stop}
+use Rattle.st_code.specs.Program.{Program, Initializer, body_at}
+use Rattle.st_rules.specs.State.{State, Answer, Go, Stop}
 use Rattle.st_rules.specs.Ends.{initializer_opening}
-use Rattle.st_rules.specs.Runs.{Ending, Done, Stuck as Stranded, Runs, first_state, kept_value, end_of}
+use Rattle.st_rules.specs.Runs.{Ending, Stuck as Stranded, first_state, kept_value, end_of}
 use Rattle.st_rules.specs.Machine.{Mach, Run, Settle, Begin, Over, Stuck, Bodies}
 use Rattle.st_rules.specs.Scoped.{ScopedBody, scoped}
 use Rattle.st_rules.specs.Flat.{FlatBody}
 use Rattle.st_rules.specs.Turns.{Top, On, Ended, open_next, top_step, top_iter, opened_run, runs_of, instructions}
-use Rattle.st_rules.specs.Compilable.{Body, AllInitializers, Compilable}
+use Rattle.st_rules.specs.Compilable.{AllInitializers, Compilable}
 use Rattle.st_rules.specs.Flattened.{flat_of, FlatFollows, FlatFollowsTheRules}
-use Rattle.st_rules.proofs.Flattening.{Places, flat_state, Chained, ScopesHold, StoreHolds, Follows, Goes}
+use Rattle.st_rules.proofs.Flattening.{Places, flat_state, StoreHolds, Goes}
 use Rattle.st_rules.proofs.FollowedRun.{follows_the_rules}
-use Rattle.st_rules.proofs.FlatOpened.{OpeningHolds, open_goes}
+use Rattle.st_rules.proofs.FlatOpened.{open_goes}
 use Rattle.st_rules.proofs.FlatRun.{step_law, chained_none}
 
 module _ (p : Program) (ok : Compilable p) where

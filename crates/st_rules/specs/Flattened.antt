@@ -3,7 +3,7 @@ use Rattle.std.specs.Prelude.{◌≡◌, ℕ}
 use Rattle.st_code.specs.Program.{Program}
 use Rattle.st_code.specs.Compiled.{compile_of}
 use Rattle.st_rules.specs.State.{State}
-use Rattle.st_rules.specs.Runs.{Ending, Stuck}
+use Rattle.st_rules.specs.Runs.{Ending, Stuck, Runs}
 use Rattle.st_rules.specs.Machine.{Bodies}
 use Rattle.st_rules.specs.Scoped.{scoped}
 use Rattle.st_rules.specs.Flat.{FlatBody, flat, greatest_width}
