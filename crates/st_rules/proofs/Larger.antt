@@ -243,7 +243,7 @@ pub larger_keeps : LargerKeeps
 larger_keeps p i j le u standing st o st' e = below_yields _ _ o st' ((larger p i j le).use' u standing st) e
 
 -- two runs of a program at one index: at the sum of theirs
-run_at : (p : Program) (e : Ending) (st : State) (r : Runs p e st) (k : ℕ) → r.index ≤ k → run_from p (at_index p k) p.initializers (first_state p) ≡ Yields r.outcome st
+pub run_at : (p : Program) (e : Ending) (st : State) (r : Runs p e st) (k : ℕ) → r.index ≤ k → run_from p (at_index p k) p.initializers (first_state p) ≡ Yields r.outcome st
 run_at p e st r k le = below_yields _ _ r.outcome st (run_below p (at_index p r.index) (at_index p k) (larger p r.index k le) p.initializers (first_state p)) r.run
 
 same_yields : (p : Program) (e e' : Ending) (st st' : State) (r : Runs p e st) (r' : Runs p e' st') → Yields r.outcome st ≡ Yields r'.outcome st'

@@ -13,4 +13,7 @@ pub mod Scoped
 pub mod Turns
 pub mod Followed
 pub mod SomeRun
+pub mod StepLimits
 pub mod Flat
+pub mod Compilable
+pub mod Flattened

@@ -1,10 +1,14 @@
 // The meaning of programs: the rules, the instruction machines and the built-in messages stand in specs/, in reading order; what is proved of them is the contract of a function here.
 #![tactic(auto)]
 
+mod flattened;
 mod follows;
 mod one_run;
 mod some_run;
+mod step_limits;
 
+pub use flattened::the_flat_machine_follows_the_scoped_one;
 pub use follows::the_machine_follows_the_rules;
 pub use one_run::a_program_has_at_most_one_run;
 pub use some_run::a_program_has_a_run;
+pub use step_limits::a_larger_step_limit_only_extends_the_transcript;
