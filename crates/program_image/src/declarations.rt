@@ -1,0 +1,126 @@
+// The classes and variables that the units of a file declare, by number.
+ghost use Rattle.std.specs.Prelude.{◌≡◌, ◌<◌, ◌^◌, ◌++◌, [], ◌∷◌, length, map, IfOk, OnOk, OnErr};
+ghost use Rattle.st_code.specs.Written.{named_class, named_unit};
+ghost use Rattle.st_code.specs.Resolved.{ClassName, ClassInstanceName, class_in, class_names_at};
+ghost use Rattle.st_code.specs.Definitions.{built_in_names, class_variables, declared_class, with_class, with_shared};
+ghost use Rattle.st_code.specs.BuiltIns.{built_in_class_rows};
+ghost use Rattle.program_image.specs.Classes.{seen_class, seen_variable, seen_names, declared_kind, IsNumbered};
+
+use crate::class::{Class, SharedVariable};
+use sqlite_items::Items;
+use st_base::{OutOfMemory, Text, built_in_classes};
+use st_names::Names;
+use st_tree::units::{ClassUnit, Unit, UnitKind};
+use std::alloc::Global;
+use std::marker::Model;
+
+/// The numbered names, classes and variables of a program. Contracts see all that names stand for.
+#[derive(Drop)]
+pub(crate) struct Declarations {
+    alloc: Global,
+    names: Names,
+    classes: Items<Class>,
+    shared: Items<SharedVariable>,
+}
+
+impl Model for Declarations {
+    ghost use Rattle.st_code.specs.Resolved.{Names as Resolved};
+
+    ghost Value = { Resolved };
+
+    ghost use Rattle.program_image.specs.Classes.{seen_names, IsNumbered};
+
+    ghost view = { λ d. seen_names d.names d.classes d.shared };
+
+    ghost invariant = { λ d. IsNumbered (seen_names d.names d.classes d.shared) };
+}
+
+// The place of the first class of this name.
+fn class_place(classes: &[Class], name: &[u8]) -> Option<u32>
+    requires { length classes.now < 2 ^ 32 }
+    ensures { result ≡ class_in 0 (map seen_class classes.now) name.now }
+{
+    let mut place = 0;
+    for class in classes {
+        if class.name.as_bytes() == name {
+            return Some(place);
+        }
+        place += 1;
+    }
+    None
+}
+
+// Adds a variable behind the others.
+fn push_variable(
+    shared: &mut Items<SharedVariable>,
+    variable: SharedVariable,
+) -> Result<(), OutOfMemory>
+    requires { length shared.old < 2 ^ 32 }
+    ensures ok { OnOk result (shared.new ≡ shared.old ++ variable ∷ []) }
+    ensures err { OnErr result (shared.new ≡ shared.old) }
+    ensures fits { length shared.new < 2 ^ 32 }
+{
+    if shared.len() >= u32::MAX as usize {
+        return Err(OutOfMemory);
+    }
+    Ok(shared.push(variable)?)
+}
+
+// Adds the class variables of a class.
+fn push_class_variables(
+    shared: &mut Items<SharedVariable>,
+    class: u32,
+    class_names: &Items<Text>,
+) -> Result<(), OutOfMemory>
+    requires { length shared.old < 2 ^ 32 }
+    ensures ok { OnOk result (map seen_variable shared.new ≡ map seen_variable shared.old ++ map (ClassName class) class_names.now) }
+    ensures fits { length shared.new < 2 ^ 32 }
+{
+    for name in class_names.as_slice() {
+        let name = name.copy()?;
+        push_variable(shared, SharedVariable::OfClass { class, name })?;
+    }
+    Ok(())
+}
+
+// Adds the class instance variables of a class.
+fn push_class_instance_variables(
+    shared: &mut Items<SharedVariable>,
+    class: u32,
+    class_instance_names: &Items<Text>,
+) -> Result<(), OutOfMemory>
+    requires { length shared.old < 2 ^ 32 }
+    ensures ok { OnOk result (map seen_variable shared.new ≡ map seen_variable shared.old ++ map (ClassInstanceName class) class_instance_names.now) }
+    ensures fits { length shared.new < 2 ^ 32 }
+{
+    for name in class_instance_names.as_slice() {
+        let name = name.copy()?;
+        push_variable(shared, SharedVariable::OfClassInstance { class, name })?;
+    }
+    Ok(())
+}
+
+// The classes that every program has.
+fn first_classes(alloc: Global) -> Result<Items<Class>, OutOfMemory>
+    ensures { IfOk result (λ classes. map seen_class classes ≡ map built_in_names built_in_class_rows) }
+{
+    let mut classes = Items::new(alloc);
+    for class in built_in_classes() {
+        classes.push(Class::built_in(alloc, class)?)?;
+    }
+    Ok(classes)
+}
+
+impl Declarations {
+    /// The built-in classes, and no variables.
+    pub(crate) fn new(alloc: Global, names: Names) -> Result<Declarations, OutOfMemory>
+        ensures { IfOk result (λ d. d ≡ record { names = names; classes = map built_in_names built_in_class_rows; shared = [] }) }
+    {
+        Ok(Declarations {
+            alloc,
+            names,
+            classes: first_classes(alloc)?,
+            shared: Items::new(alloc),
+        })
+    }
+}

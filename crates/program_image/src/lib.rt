@@ -1,0 +1,10 @@
+// A program with its names, classes, variables and methods by number, and lookup among them. It takes a definition whole; every class, selector and variable of it gets the number that the run uses.
+#![tactic(auto)]
+
+mod class;
+mod declarations;
+mod spelled;
+mod table;
+
+pub use class::{Class, SharedVariable};
+pub use table::{Found, Side};
