@@ -1,1 +1,4 @@
 pub mod Spelling
+pub mod Places
+pub mod Classes
+pub mod Declared

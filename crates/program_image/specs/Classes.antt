@@ -1,6 +1,5 @@
 -- Classes and variables of a program as they are seen.
-use Rattle.std.specs.Prelude.{ℕ, suc, ◌<◌, ◌≡◌, ◌^◌, List, [], ◌∷◌, length, map, Option, Some, None, Bool, true, false, ◌&&◌, nat_lt, if◌then◌else◌, codes}
-use Rattle.std.specs.List.{list_any}
+use Rattle.std.specs.Prelude.{ℕ, suc, ◌<◌, ◌≡◌, ◌^◌, List, [], ◌∷◌, length, map, Option, Some, None, Bool, true, false, ◌&&◌, ◌||◌, nat_lt, if◌then◌else◌, codes}
 use Rattle.std.specs.Str.{bytes_eq}
 use Rattle.st_code.specs.Texts.{Text}
 use Rattle.st_code.specs.Program.{Indexed, NoIndexes}
@@ -66,12 +65,16 @@ declared_kind x (Some u) = declared_unit x u
 
 -- ---- built-in classes
 
+abbrev pub is_one_of : Text → List Text → Bool
+is_one_of name [] = false
+is_one_of name (t ∷ texts) = bytes_eq name t || is_one_of name texts
+
 -- how many named slots the instances of a built-in class have
 unfoldable pub slots_named : Text → ℕ
 slots_named name =
-    if list_any (bytes_eq name) (codes "Exception" ∷ codes "Error" ∷ codes "Notification" ∷ codes "Warning" ∷ []) then 1
-    else (if list_any (bytes_eq name) (codes "Fraction" ∷ codes "Association" ∷ codes "Message" ∷ codes "ZeroDivide" ∷ []) then 2
-    else (if list_any (bytes_eq name) (codes "Interval" ∷ codes "MessageNotUnderstood" ∷ []) then 3 else 0))
+    if is_one_of name (codes "Exception" ∷ codes "Error" ∷ codes "Notification" ∷ codes "Warning" ∷ []) then 1
+    else (if is_one_of name (codes "Fraction" ∷ codes "Association" ∷ codes "Message" ∷ codes "ZeroDivide" ∷ []) then 2
+    else (if is_one_of name (codes "Interval" ∷ codes "MessageNotUnderstood" ∷ []) then 3 else 0))
 
 abbrev pub built_in_class : base.ClassRow → ClassNames
 built_in_class c =

@@ -2,11 +2,13 @@
 ghost use Rattle.std.specs.Prelude.{◌≡◌, ◌<◌, ◌^◌, ◌++◌, [], ◌∷◌, length, map, IfOk, OnOk, OnErr};
 ghost use Rattle.st_code.specs.Written.{named_class, named_unit};
 ghost use Rattle.st_code.specs.Resolved.{ClassName, ClassInstanceName, class_in, class_names_at};
-ghost use Rattle.st_code.specs.Definitions.{built_in_names, class_variables, declared_class, with_class, with_shared};
+ghost use Rattle.st_code.specs.Definitions.{built_in_names, class_variables, declared_class, or_zero, with_shared};
 ghost use Rattle.st_code.specs.BuiltIns.{built_in_class_rows};
+ghost use Rattle.program_image.specs.Images.{image_names};
 ghost use Rattle.program_image.specs.Classes.{seen_class, seen_variable, seen_names, declared_kind, IsNumbered};
 
 use crate::class::{Class, SharedVariable};
+use crate::spelled::names_of;
 use sqlite_items::Items;
 use st_base::{OutOfMemory, Text, built_in_classes};
 use st_names::Names;
@@ -48,6 +50,29 @@ fn class_place(classes: &[Class], name: &[u8]) -> Option<u32>
         place += 1;
     }
     None
+}
+
+// The place of the superclass of this name, or of the first class where there is none.
+fn superclass_place(classes: &[Class], name: &[u8]) -> u32
+    requires some { 0 < length classes.now }
+    requires fits { length classes.now < 2 ^ 32 }
+    ensures place { result ≡ or_zero (class_in 0 (map seen_class classes.now) name.now) }
+    ensures there { result < length classes.now }
+{
+    class_place(classes, name).unwrap_or(0)
+}
+
+// Adds a class behind the others.
+fn push_class(classes: &mut Items<Class>, class: Class) -> Result<(), OutOfMemory>
+    requires { length classes.old < 2 ^ 32 }
+    ensures ok { OnOk result (classes.new ≡ classes.old ++ class ∷ []) }
+    ensures err { OnErr result (classes.new ≡ classes.old) }
+    ensures fits { length classes.new < 2 ^ 32 }
+{
+    if classes.len() >= u32::MAX as usize {
+        return Err(OutOfMemory);
+    }
+    Ok(classes.push(class)?)
 }
 
 // Adds a variable behind the others.
@@ -123,4 +148,94 @@ impl Declarations {
             shared: Items::new(alloc),
         })
     }
+    /// The numbered names.
+    pub(crate) fn names(&self) -> &Names
+        ensures { result.now ≡ self.now.names }
+    {
+        &self.names
+    }
+
+    /// The classes by number.
+    pub(crate) fn classes(&self) -> &[Class]
+        ensures { map seen_class result.now ≡ self.now.classes }
+    {
+        self.classes.as_slice()
+    }
+
+    /// The variables by number.
+    pub(crate) fn shared(&self) -> &[SharedVariable]
+        ensures { map seen_variable result.now ≡ self.now.shared }
+    {
+        self.shared.as_slice()
+    }
+
+    /// The number of the first class of this name. None where there is none.
+    pub(crate) fn class_number(&self, name: &[u8]) -> Option<u32>
+        ensures { result ≡ class_in 0 self.now.classes name.now }
+    {
+        class_place(self.classes.as_slice(), name)
+    }
+
+    fn declare_variable(&mut self, variable: SharedVariable) -> Result<(), OutOfMemory>
+        ensures { OnOk result (self.new ≡ with_shared self.old (seen_variable variable)) }
+    {
+        push_variable(&mut self.shared, variable)
+    }
+
+    fn declare_class(&mut self, unit: &ClassUnit) -> Result<(), OutOfMemory>
+        ensures { OnOk result (self.new ≡ declared_class self.old (named_class unit.now)) }
+    {
+        let classes = self.classes.as_slice();
+        let number = classes.len() as u32;
+        let superclass = superclass_place(classes, unit.superclass.as_bytes());
+        let above = &classes[superclass as usize];
+        let class = Class::over(self.alloc, unit, superclass, above, self.shared.len() as u32)?;
+        push_class_variables(&mut self.shared, number, &class.class_names)?;
+        push_class_instance_variables(&mut self.shared, number, &class.class_instance_names)?;
+        push_class(&mut self.classes, class)
+    }
+
+    /// Adds what a unit declares. After want of memory a part of it may be there.
+    fn declare(&mut self, unit: &Unit) -> Result<(), OutOfMemory>
+        ensures { OnOk result (self.new ≡ declared_kind self.old (named_unit unit.now)) }
+    {
+        match &unit.kind {
+            UnitKind::Class(class) => self.declare_class(class),
+            UnitKind::GlobalVariable(name) => {
+                self.declare_variable(SharedVariable::Global(name.copy()?))
+            }
+            UnitKind::GlobalConstant(name) => {
+                self.declare_variable(SharedVariable::Global(name.copy()?))
+            }
+            UnitKind::PoolVariable { pool, name } => {
+                let pool = pool.copy()?;
+                let name = name.copy()?;
+                self.declare_variable(SharedVariable::Pool { pool, name })
+            }
+            UnitKind::PoolConstant { pool, name } => {
+                let pool = pool.copy()?;
+                let name = name.copy()?;
+                self.declare_variable(SharedVariable::Pool { pool, name })
+            }
+            UnitKind::Version(_)
+            | UnitKind::Pool(_)
+            | UnitKind::Initializer { .. }
+            | UnitKind::PoolInitializer { .. }
+            | UnitKind::ProgramInitializer(_)
+            | UnitKind::Method { .. }
+            | UnitKind::ClassMethod { .. }
+            | UnitKind::Comment(_) => Ok(()),
+        }
+    }
+}
+
+/// What the units of a file declare.
+pub(crate) fn declarations_of(alloc: Global, units: &[Unit]) -> Result<Declarations, OutOfMemory>
+    ensures { IfOk result (λ d. d ≡ image_names units.now) }
+{
+    let mut declarations = Declarations::new(alloc, names_of(alloc, units)?)?;
+    for unit in units {
+        declarations.declare(unit)?;
+    }
+    Ok(declarations)
 }
