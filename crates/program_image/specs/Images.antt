@@ -4,13 +4,19 @@ use Rattle.std.specs.Option.{option_map}
 use Rattle.st_tree.specs.declared.units.Unit.{Unit}
 use Rattle.st_code.specs.Texts.{Text}
 use Rattle.st_code.specs.Program.{Program, MethodRow, OfInstance, OfClass, OfMeta, Side as OnSide, name_at}
-use Rattle.st_code.specs.Named.{NamedUnit, MethodUnit, ClassMethodUnit}
+use Rattle.st_code.specs.Named.{NamedMethod, NamedUnit, MethodUnit, ClassMethodUnit}
 use Rattle.st_code.specs.Written.{named_unit, named_units}
 use Rattle.st_code.specs.Resolved.{Names, class_in, number_or_last}
 use Rattle.st_code.specs.Definitions.{or_zero, names_of, class_row}
 use Rattle.st_code.specs.BuiltIns.{message_number, numbered_row}
 use Rattle.st_code.specs.Lookup.{Level, level, walk, method_at, Found as RowFound, UserMethod, BuiltIn as BuiltInRow}
+use Rattle.st_base.specs.declared.builtins.MethodSide.{MethodSide}
+use Rattle.st_base.specs.declared.builtins.MethodSide.TheVariants as method_side
+use Rattle.st_base.specs.BuiltIns.{MessageRow, messages}
 use Rattle.program_image.specs.Spelled.{names_in}
+use Rattle.program_image.specs.Tables.{HasFirsts}
+use Rattle.program_image.specs.declared.table.Key.{Key}
+use Rattle.program_image.specs.declared.table.Entry.{Entry}
 use Rattle.program_image.specs.declared.table.Side.{Side}
 use Rattle.program_image.specs.declared.table.Side.TheVariants as side
 use Rattle.program_image.specs.declared.table.Found.{Found}
@@ -22,15 +28,22 @@ image_names units = names_of (names_in (named_units units)) (named_units units)
 
 -- ---- methods
 
--- a method, found by the place of its unit in the file
-abbrev pub methods_here : Names → ℕ → Option NamedUnit → List MethodRow
-methods_here x place (Some (MethodUnit class m)) = record { class = or_zero (class_in 0 x.classes class); side = OfInstance; selector = number_or_last x.names m.selector; code = place } ∷ []
-methods_here x place (Some (ClassMethodUnit class m)) = record { class = or_zero (class_in 0 x.classes class); side = OfClass; selector = number_or_last x.names m.selector; code = place } ∷ []
-methods_here x place u = []
+-- the method that a unit defines, by the place of the unit in the file
+abbrev pub method_of : Names → (place : ℕ) → OnSide → Text → NamedMethod → MethodRow
+method_of x place on class m = record { class = or_zero (class_in 0 x.classes class); side = on; selector = number_or_last x.names m.selector; code = place }
+
+abbrev pub method_here : Names → ℕ → Option NamedUnit → Option MethodRow
+method_here x place (Some (MethodUnit class m)) = Some (method_of x place OfInstance class m)
+method_here x place (Some (ClassMethodUnit class m)) = Some (method_of x place OfClass class m)
+method_here x place u = None
+
+abbrev pub with_method : Option MethodRow → List MethodRow → List MethodRow
+with_method None methods = methods
+with_method (Some m) methods = m ∷ methods
 
 abbrev pub methods_from : Names → ℕ → List Unit → List MethodRow
 methods_from x place [] = []
-methods_from x place (u ∷ units) = methods_here x place (named_unit u) ++ methods_from x (suc place) units
+methods_from x place (u ∷ units) = with_method (method_here x place (named_unit u)) (methods_from x (suc place) units)
 
 unfoldable pub image_methods : List Unit → List MethodRow
 image_methods units = methods_from (image_names units) 0 units
@@ -79,3 +92,36 @@ image_lookup units on class selector = image_found_in units (walk (image_program
 abbrev pub as_row : Found → RowFound
 as_row (found.User place) = UserMethod place
 as_row (found.BuiltIn number) = BuiltInRow (numbered_row number)
+
+-- ---- the table of methods
+
+abbrev pub off_side : OnSide → Side
+off_side OfInstance = side.Instance
+off_side OfClass = side.Class
+off_side OfMeta = side.Meta
+
+abbrev pub key_at : (selector : ℕ) → Side → (class : ℕ) → Key
+key_at selector on class = record { selector = selector; side = on; class = class }
+
+abbrev pub method_entry : MethodRow → Entry
+method_entry m = record { key = key_at m.selector (off_side m.side) m.class; found = found.User m.code }
+
+abbrev pub message_side : MethodSide → Side
+message_side method_side.Instance = side.Instance
+message_side method_side.Class = side.Class
+
+abbrev pub message_entry : List Text → ℕ → MessageRow → Entry
+message_entry names number m = record { key = key_at (number_or_last names m.selector) (message_side m.side) m.class; found = found.BuiltIn number }
+
+abbrev pub message_entries : List Text → ℕ → List MessageRow → List Entry
+message_entries names number [] = []
+message_entries names number (m ∷ messages) = message_entry names number m ∷ message_entries names (suc number) messages
+
+-- the methods of the file in the order of their units, and the built-in messages behind them
+unfoldable pub entries_with : Names → List Unit → List Entry
+entries_with x units = map method_entry (methods_from x 0 units) ++ message_entries x.names 0 messages
+
+-- what an image holds: what the units declare, and a table of their methods
+pub record IsImage (units : List Unit) (names : Names) (table : List Entry) : Type 0 where
+  pub declared : names ≡ image_names units
+  pub firsts : HasFirsts (entries_with (image_names units) units) table

@@ -1,4 +1,4 @@
 pub mod Spelled
 pub mod Classes
-pub mod Images
 pub mod Tables
+pub mod Images

@@ -1,7 +1,7 @@
 // The classes and variables that the units of a file declare, by number.
-ghost use Rattle.std.specs.Prelude.{◌≡◌, ◌<◌, ◌^◌, ◌++◌, [], ◌∷◌, length, map, IfOk, OnOk, OnErr};
+ghost use Rattle.std.specs.Prelude.{◌≡◌, ◌<◌, ◌^◌, ◌++◌, [], ◌∷◌, length, map, IfOk, IfSome, OnOk, OnErr};
 ghost use Rattle.st_code.specs.Written.{named_class, named_unit};
-ghost use Rattle.st_code.specs.Resolved.{ClassName, ClassInstanceName, class_in, class_names_at};
+ghost use Rattle.st_code.specs.Resolved.{ClassName, ClassInstanceName, class_in, class_names_at, number_or_last};
 ghost use Rattle.st_code.specs.Definitions.{built_in_names, class_variables, declared_class, or_zero, with_shared};
 ghost use Rattle.st_code.specs.BuiltIns.{built_in_class_rows};
 ghost use Rattle.program_image.specs.Images.{image_names};
@@ -174,6 +174,33 @@ impl Declarations {
         ensures { result ≡ class_in 0 self.now.classes name.now }
     {
         class_place(self.classes.as_slice(), name)
+    }
+
+    /// The number of the superclass of a class.
+    pub(crate) fn superclass(&self, class: u32) -> Option<u32>
+        requires { class < length self.now.classes }
+        ensures value { result ≡ (class_names_at self.now.classes class).row.superclass }
+        ensures there { IfSome result (λ above. above < class) }
+    {
+        self.classes.as_slice()[class as usize].superclass
+    }
+
+    /// The name of a class.
+    pub(crate) fn class_name(&self, class: u32) -> &[u8]
+        requires { class < length self.now.classes }
+        ensures { result.now ≡ (class_names_at self.now.classes class).row.name }
+    {
+        self.classes.as_slice()[class as usize].name.as_bytes()
+    }
+
+    /// The number of a selector or symbol, one past the last where it isn't there.
+    pub(crate) fn name_number(&self, text: &[u8]) -> u32
+        ensures { result ≡ number_or_last self.now.names text.now }
+    {
+        match self.names.find(text) {
+            Some(number) => number,
+            None => self.names.len(),
+        }
     }
 
     fn declare_variable(&mut self, variable: SharedVariable) -> Result<(), OutOfMemory>

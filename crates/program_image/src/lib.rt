@@ -3,8 +3,11 @@
 
 mod class;
 mod declarations;
+mod image;
+mod methods;
 mod spelled;
 mod table;
 
 pub use class::{Class, SharedVariable};
+pub use image::{Image, build};
 pub use table::{Found, Side};

@@ -1,6 +1,6 @@
 // The table of methods and built-in messages, sorted by selector, side and class.
 ghost use Rattle.std.specs.Prelude.{◌≡◌, ◌≤◌, length, IfOk};
-ghost use Rattle.program_image.specs.Tables.{first_found, IsSortedTable, HasFirsts};
+ghost use Rattle.program_image.specs.Tables.{first_found, IsSortedTable, Searched, HasFirsts};
 
 use st_base::OutOfMemory;
 use std::alloc::Global;
@@ -59,13 +59,14 @@ impl Model for MethodTable {
 
 // The place of the first entry that doesn't come before this key.
 fn place_of(entries: &[Entry], key: Key) -> usize
-    ensures { result ≤ length entries.now }
+    requires { IsSortedTable entries.now }
+    ensures { Searched entries.now key result result }
 {
     let mut low = 0;
     let mut high = entries.len();
     while low < high {
         let middle = low + (high - low) / 2;
-        if entries[middle].key < key {
+        if entries[middle].key.cmp(&key).is_lt() {
             low = middle + 1;
         } else {
             high = middle;
@@ -88,10 +89,15 @@ impl MethodTable {
     pub(crate) fn find(&self, key: Key) -> Option<Found>
         ensures { result ≡ first_found self.now key }
     {
-        let place = place_of(&self.entries, key);
-        match self.entries.get(place) {
-            Some(entry) if entry.key == key => Some(entry.found),
-            _ => None,
+        let entries = self.entries.as_slice();
+        let place = place_of(entries, key);
+        if place == entries.len() {
+            return None;
         }
+        let entry = entries[place];
+        if entry.key == key {
+            return Some(entry.found);
+        }
+        None
     }
 }
