@@ -4,3 +4,6 @@ pub mod Classes
 pub mod Declared
 pub mod Order
 pub mod Firsts
+pub mod Numbers
+pub mod Walks
+pub mod Entries
