@@ -1,10 +1,10 @@
 -- The built-in classes, and a class that stands behind the others.
-use Rattle.std.proofs.Common.{◌≡◌, ℕ, suc, ◌+◌, ◌<◌, ◌≤◌, ◌^◌, Bool, true, false, ◌&&◌, List, [], ◌∷◌, ◌++◌, map, take, length, get_or, Option, Some, None, refl, ap, sym, ◌∙◌, arith, nat_lt}
+use Rattle.std.proofs.Common.{◌≡◌, ℕ, suc, ◌+◌, Bool, true, false, ◌&&◌, List, [], ◌∷◌, ◌++◌, map, length, refl, ap, ◌∙◌, arith}
 use Rattle.st_base.specs.BuiltIns as base
 use Rattle.st_code.specs.Texts.{Text}
 use Rattle.st_code.specs.Resolved.{ClassNames}
 use Rattle.st_code.specs.Definitions.{built_in_names}
-use Rattle.st_code.specs.BuiltIns.{built_in_classes, built_in_class_rows}
+use Rattle.st_code.specs.BuiltIns.{built_in_class_rows}
 use Rattle.program_image.specs.Classes.{slots_named, built_in_class, is_below, falls, IsNumbered}
 
 pub built_ins : map built_in_class base.classes ≡ map built_in_names built_in_class_rows
@@ -40,4 +40,4 @@ falls-push n [] c = and-last (is_below c.row.superclass n) ∙ ap (is_below c.ro
 falls-push n (d ∷ classes) c =
     let step : suc n + length classes ≡ n + suc (length classes) = omega arith in
     and-step (is_below d.row.superclass n) (falls (suc n) (classes ++ c ∷ [])) (falls (suc n) classes) (is_below c.row.superclass (n + suc (length classes)))
-        (falls-push (suc n) classes c ∙ ap (λ m. falls (suc n) classes && is_below c.row.superclass m) step)
+    (falls-push (suc n) classes c ∙ ap (λ m. falls (suc n) classes && is_below c.row.superclass m) step)

@@ -1,5 +1,5 @@
 -- What a class declares, beside those before it.
-use Rattle.std.proofs.Common.{◌≡◌, ℕ, suc, ◌+◌, ◌<◌, ◌≤◌, ◌^◌, Bool, true, false, ◌&&◌, List, [], ◌∷◌, ◌++◌, map, drop, length, get_or, Option, Some, None, Result, Ok, Err, OnOk, OnErr, refl, ap, sym, ◌∙◌, subst, arith, nat_lt}
+use Rattle.std.proofs.Common.{◌≡◌, ℕ, suc, ◌+◌, ◌<◌, ◌^◌, true, ◌&&◌, List, [], ◌∷◌, ◌++◌, map, drop, length, get_or, Option, Some, None, Result, Ok, Err, OnOk, OnErr, refl, ap, sym, ◌∙◌, subst, arith, nat_lt}
 use Rattle.std.proofs.Math.Seq.{drop-cons}
 use Rattle.std.proofs.lemmas.List.{length-map, map_push, get_or-map, append_assoc}
 use Rattle.std.proofs.lemmas.Bool.{lt-ltb}
@@ -8,7 +8,7 @@ use Rattle.st_code.specs.Texts.{Text}
 use Rattle.st_code.specs.Named.{NamedClass, NamedUnit}
 use Rattle.st_code.specs.Written.{named_unit, named_units, with_named}
 use Rattle.st_code.specs.Resolved.{ClassName, ClassInstanceName, SharedName, ClassNames, Names, no_names, class_in, class_names_at}
-use Rattle.st_code.specs.Definitions.{class_over, class_variables, with_class, declared_class, declared_unit, declared_units, or_zero}
+use Rattle.st_code.specs.Definitions.{class_over, class_variables, with_class, declared_class, declared_units, or_zero}
 use Rattle.program_image.specs.declared.class.Class.{Class}
 use Rattle.program_image.specs.declared.class.SharedVariable.{SharedVariable}
 use Rattle.program_image.specs.Classes.{seen_class, seen_variable, seen_names, is_below, falls, IsNumbered, declared_kind}
@@ -34,7 +34,7 @@ class-added : (names : List Text) (classes : List Class) (c : Class) (number : �
 class-added names classes c number s0 s1 s2 count first second =
     ap (λ cs. names_with names cs (map seen_variable s2)) (map_push seen_class classes c)
     ∙ ap (λ ss. names_with names (map seen_class classes ++ seen_class c ∷ []) ss)
-        (variables-added number c s0 s1 s2 first second ∙ ap (λ n. map seen_variable s0 ++ class_variables n (seen_class c)) (count ∙ sym (length-map classes seen_class)))
+    (variables-added number c s0 s1 s2 first second ∙ ap (λ n. map seen_variable s0 ++ class_variables n (seen_class c)) (count ∙ sym (length-map classes seen_class)))
 
 -- a class over the one at the place of its superclass
 class-made : (u : NamedClass) (classes : List Class) (above : Class) (shared : List SharedVariable) (made : ClassNames) (s variables : ℕ)
@@ -109,4 +109,4 @@ units-declared now new whole units i u there low sofar is =
     let next : suc i ≡ i + 1 = omega arith in
     let at : drop i units ≡ u ∷ drop (suc i) units = drop-cons units i u low ∙ ap (λ v. v ∷ drop (suc i) units) (sym there) in
     subst (λ n. declared_units new (named_units (drop n units)) ≡ whole) next
-        (ap (λ x. declared_units x (named_units (drop (suc i) units))) is ∙ sym (unit-declared now u (drop (suc i) units)) ∙ sym (ap (λ us. declared_units now (named_units us)) at) ∙ sofar)
+    (ap (λ x. declared_units x (named_units (drop (suc i) units))) is ∙ sym (unit-declared now u (drop (suc i) units)) ∙ sym (ap (λ us. declared_units now (named_units us)) at) ∙ sofar)

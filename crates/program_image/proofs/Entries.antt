@@ -1,5 +1,5 @@
 -- The entries of the table, and what is first among them.
-use Rattle.std.proofs.Common.{◌≡◌, ℕ, zero, suc, ◌+◌, ◌<◌, ◌≤◌, Bool, true, false, ◌&&◌, List, [], ◌∷◌, ◌++◌, map, drop, length, get_or, Option, Some, None, refl, ap, sym, ◌∙◌, subst, arith, nat_eq}
+use Rattle.std.proofs.Common.{◌≡◌, ℕ, suc, ◌+◌, ◌<◌, ◌≤◌, Bool, true, false, ◌&&◌, List, [], ◌∷◌, ◌++◌, map, drop, length, get_or, Option, Some, None, refl, ap, sym, ◌∙◌, subst, arith, nat_eq}
 use Rattle.std.specs.Option.{option_map}
 use Rattle.std.proofs.Math.Seq.{drop-cons}
 use Rattle.std.proofs.lemmas.List.{drop_all, append_assoc, append-nil}
@@ -11,7 +11,7 @@ use Rattle.st_code.specs.Program.{MethodRow, OfInstance, OfClass, OfMeta, Side a
 use Rattle.st_code.specs.Named.{NamedUnit, ClassUnit, GlobalUnit, PoolVariableUnit, InitializerUnit, PoolInitializerUnit, ProgramUnit, MethodUnit, ClassMethodUnit}
 use Rattle.st_code.specs.Definitions.{declared_unit, declared_units, names_of, built_in_names}
 use Rattle.st_code.specs.Written.{named_unit, named_units}
-use Rattle.st_code.specs.Resolved.{Names, number_or_last}
+use Rattle.st_code.specs.Resolved.{Names}
 use Rattle.st_code.specs.BuiltIns.{built_in_class_rows, BuiltInMessage, numbered_messages, is_message, place_of_message, message_number}
 use Rattle.st_code.specs.Lookup.{Level, level, is_method, method_at}
 use Rattle.st_code.proofs.Tables.{base_message, method_side, messages-base}
@@ -79,9 +79,9 @@ messages-next names number items i m entries new whole there low pushed sofar =
     let next : suc i ≡ i + 1 = omega arith in
     let after : suc number ≡ number + 1 = omega arith in
     let at : message_entries names number (map base.message_row (drop i items)) ≡ message_entry names number (base.message_row m) ∷ message_entries names (number + 1) (map base.message_row (drop (i + 1) items)) =
-        ap (λ ms. message_entries names number (map base.message_row ms)) (drop-cons items i m low ∙ ap (λ y. y ∷ drop (suc i) items) (sym there))
-        ∙ ap (λ n. message_entry names number (base.message_row m) ∷ message_entries names n (map base.message_row (drop (suc i) items))) after
-        ∙ ap (λ j. message_entry names number (base.message_row m) ∷ message_entries names (number + 1) (map base.message_row (drop j items))) next in
+    ap (λ ms. message_entries names number (map base.message_row ms)) (drop-cons items i m low ∙ ap (λ y. y ∷ drop (suc i) items) (sym there))
+    ∙ ap (λ n. message_entry names number (base.message_row m) ∷ message_entries names n (map base.message_row (drop (suc i) items))) after
+    ∙ ap (λ j. message_entry names number (base.message_row m) ∷ message_entries names (number + 1) (map base.message_row (drop j items))) next in
     ap (λ es. es ++ message_entries names (number + 1) (map base.message_row (drop (i + 1) items))) pushed
     ∙ append-one entries (message_entries names (number + 1) (map base.message_row (drop (i + 1) items))) (message_entry names number (base.message_row m))
     ∙ ap (λ es. entries ++ es) (sym at) ∙ sofar
@@ -117,10 +117,6 @@ and-turn true false true = refl
 and-turn true false false = refl
 and-turn false b c = refl
 
-and-group : (a b c : Bool) → ((a && b) && c) ≡ (a && (b && c))
-and-group true b c = refl
-and-group false b c = refl
-
 sides-agree : (s : OnSide) (on : Side) → same_side (off_side s) on ≡ same_on s (on_side on)
 sides-agree OfInstance side.Instance = refl
 sides-agree OfInstance side.Class = refl
@@ -135,7 +131,7 @@ sides-agree OfMeta side.Meta = refl
 method-key : (m : MethodRow) (selector : ℕ) (on : Side) (class : ℕ) → same_key (method_entry m).key (key_at selector on class) ≡ is_method (level (on_side on) class) selector m
 method-key m selector on class =
     ap (λ b. nat_eq m.selector selector && (b && nat_eq m.class class)) (sides-agree m.side on)
-    ∙ and-turn (nat_eq m.selector selector) (same_on m.side (on_side on)) (nat_eq m.class class) ∙ and-group (nat_eq m.selector selector) (nat_eq m.class class) (same_on m.side (on_side on))
+    ∙ and-turn (nat_eq m.selector selector) (same_on m.side (on_side on)) (nat_eq m.class class)
 
 method-step : (b c : Bool) (code : ℕ) (o : Option ℕ) (q : Option Found) → b ≡ c → q ≡ option_map found.User o
     → elim b [ true ↦ Some (found.User code) | false ↦ q ] ≡ option_map found.User (elim c [ true ↦ Some code | false ↦ o ])
@@ -150,7 +146,7 @@ unfolding first_found method_at
 first-method [] selector on class = refl
 first-method (m ∷ rows) selector on class =
     method-step (same_key (method_entry m).key (key_at selector on class)) (is_method (level (on_side on) class) selector m) m.code (method_at rows (level (on_side on) class) selector) (first_found (map method_entry rows) (key_at selector on class))
-        (method-key m selector on class) (first-method rows selector on class)
+    (method-key m selector on class) (first-method rows selector on class)
 
 -- no built-in message stands on the side of metaclasses
 abbrev on_two_sides : List BuiltInMessage → Bool
@@ -217,8 +213,8 @@ module _ (names : List Text) (selector : ℕ) (on : Side) (class : ℕ) (apart :
   first-message (m ∷ rows) n two =
       let stands : Standing m.side (on_two_sides rows) ≡ true = sym (standing-is m.side (on_two_sides rows)) ∙ two in
       message-step (same_key (message_entry names n (base_message m)).key (key_at selector on class)) (is_message class (on_side on) (get_or names selector []) m) n
-          (place_of_message (suc n) rows class (on_side on) (get_or names selector [])) (first_found (message_entries names (suc n) (map base_message rows)) (key_at selector on class))
-          (message-key m n (on_two_sides rows) stands) (first-message rows (suc n) (standing-rest m.side (on_two_sides rows) stands))
+      (place_of_message (suc n) rows class (on_side on) (get_or names selector [])) (first_found (message_entries names (suc n) (map base_message rows)) (key_at selector on class))
+      (message-key m n (on_two_sides rows) stands) (first-message rows (suc n) (standing-rest m.side (on_two_sides rows) stands))
 
 here-is : (units : List Unit) (l : Level) (selector : ℕ) (o : Option ℕ) (q : Option Found) → q ≡ option_map found.BuiltIn (message_number l.class l.side (name_at (image_program units) selector))
     → or_found (option_map found.User o) q ≡ found_here units l selector o

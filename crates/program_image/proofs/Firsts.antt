@@ -1,5 +1,5 @@
 -- The first entry with a key, in a list and in the table that a stable sort makes of it.
-use Rattle.std.proofs.Common.{◌≡◌, ◌⊎◌, inl, inr, ℕ, zero, suc, ◌+◌, ◌<◌, ◌≤◌, Bool, true, false, not, ◌&&◌, cond, List, [], ◌∷◌, drop, length, get_or, Option, Some, None, refl, ap, sym, ◌∙◌, arith, nat_eq}
+use Rattle.std.proofs.Common.{◌≡◌, ◌⊎◌, inl, inr, ℕ, zero, suc, ◌<◌, ◌≤◌, Bool, true, false, not, ◌&&◌, cond, List, [], ◌∷◌, drop, length, get_or, Option, Some, None, refl, ap, sym, ◌∙◌, arith, nat_eq}
 use Rattle.std.specs.List.{filter}
 use Rattle.std.specs.List.Sorted.{IsSortedByKey, IsStableByKey, ties}
 use Rattle.std.specs.Ordering.{nat_cmp, is_lt, is_eq, ordering_then, ordering_reverse, ordering_index}
@@ -16,7 +16,7 @@ use Rattle.program_image.specs.declared.table.Found.{Found}
 use Rattle.program_image.specs.declared.table.Found.TheVariants.{User}
 use Rattle.program_image.specs.declared.table.Key.{Key}
 use Rattle.program_image.specs.declared.table.Entry.{Entry}
-use Rattle.program_image.specs.Tables.{same_side, same_key, first_found, key_cmp, key_of, side_rank, is_before, Searched, HasFirsts}
+use Rattle.program_image.specs.Tables.{same_side, same_key, first_found, key_cmp, key_of, side_rank, Searched, HasFirsts}
 use Rattle.program_image.specs.contracts.table.KeyOrd.TheImpl as key_ord
 use Rattle.program_image.proofs.Order.{key_same, key_total, rises}
 
@@ -46,9 +46,9 @@ key-equal a b =
     then-equal (nat_cmp a.selector b.selector) (ordering_then (nat_cmp (side_rank a.side) (side_rank b.side)) (nat_cmp a.class b.class))
     ∙ ap (λ c. c && is_eq (ordering_then (nat_cmp (side_rank a.side) (side_rank b.side)) (nat_cmp a.class b.class))) (nat-equal a.selector b.selector)
     ∙ ap (λ c. nat_eq a.selector b.selector && c)
-        (then-equal (nat_cmp (side_rank a.side) (side_rank b.side)) (nat_cmp a.class b.class)
-        ∙ ap (λ c. c && is_eq (nat_cmp a.class b.class)) (side-equal a.side b.side)
-        ∙ ap (λ c. same_side a.side b.side && c) (nat-equal a.class b.class))
+    (then-equal (nat_cmp (side_rank a.side) (side_rank b.side)) (nat_cmp a.class b.class)
+    ∙ ap (λ c. c && is_eq (nat_cmp a.class b.class)) (side-equal a.side b.side)
+    ∙ ap (λ c. same_side a.side b.side && c) (nat-equal a.class b.class))
 
 -- what `==` says of two keys
 side-tells : (a b : Side) → sameb side_type.the_type a b ≡ same_side a b

@@ -7,3 +7,4 @@ pub mod Firsts
 pub mod Numbers
 pub mod Walks
 pub mod Entries
+pub mod Lookups

@@ -1,7 +1,7 @@
 -- Names by number: the number of a text, and that each text has one.
-use Rattle.std.proofs.Common.{◌≡◌, ℕ, zero, suc, ◌+◌, ◌<◌, ◌≤◌, Bool, true, false, not, ◌&&◌, ◌||◌, cond, List, [], ◌∷◌, ◌++◌, map, length, get_or, Option, Some, None, refl, ap, sym, ◌∙◌, subst, arith, nat_eq, nat_lt, if◌then◌else◌}
+use Rattle.std.proofs.Common.{◌≡◌, ℕ, zero, suc, ◌+◌, ◌<◌, Bool, true, false, not, ◌||◌, cond, List, [], ◌∷◌, ◌++◌, map, length, get_or, Option, Some, None, refl, ap, sym, ◌∙◌, arith, nat_eq, nat_lt, if◌then◌else◌}
 use Rattle.std.specs.Str.{bytes_eq}
-use Rattle.std.specs.List.{position, position_or_len, prefix_len, list_any}
+use Rattle.std.specs.List.{position, position_or_len, list_any}
 use Rattle.std.proofs.lemmas.Bool.{ltb-false}
 use Rattle.std.proofs.lemmas.Bool.Decides.{nat_tests}
 use Rattle.std.proofs.lemmas.Option.{cond_some}
@@ -79,9 +79,10 @@ any-last p (u ∷ names) t none is =
 
 distinct-last : (names : List Text) (t : Text) → IsDistinct names → list_any (bytes_eq t) names ≡ false → IsDistinct (names ++ t ∷ [])
 distinct-last [] t apart new = (refl, tt)
-distinct-last (u ∷ names) t apart new =
-    (any-last (bytes_eq u) names t apart.0 (nat_list_eq_equiv.symm u t ∙ left-false (bytes_eq t u) (list_any (bytes_eq t) names) new),
-     distinct-last names t apart.1 (right-false (bytes_eq t u) (list_any (bytes_eq t) names) new))
+distinct-last (u ∷ names) t apart new = (
+  any-last (bytes_eq u) names t apart.0 (nat_list_eq_equiv.symm u t ∙ left-false (bytes_eq t u) (list_any (bytes_eq t) names) new),
+  distinct-last names t apart.1 (right-false (bytes_eq t u) (list_any (bytes_eq t) names) new),
+)
 
 distinct-if : (b : Bool) (names : List Text) (t : Text) → list_any (bytes_eq t) names ≡ b → IsDistinct names → IsDistinct (if b then names else names ++ t ∷ [])
 distinct-if true names t is apart = apart
@@ -121,8 +122,8 @@ stands-at [] t s apart low = absurd (omega (arith, low))
 stands-at (u ∷ names) t zero apart low = first-text (bytes_eq t u) (position_or_len (bytes_eq t) names)
 stands-at (u ∷ names) t (suc s) apart low =
     later-text (bytes_eq t u) (bytes_eq t (get_or names s [])) (position_or_len (bytes_eq t) names) s
-        (λ is. ap (λ (v : Text). bytes_eq v (get_or names s [])) ((bytes_eq-Decides t u).0 is) ∙ any-at (bytes_eq u) names s (omega (arith, low)) apart.0)
-        (stands-at names t s apart.1 (omega (arith, low)))
+    (λ is. ap (λ (v : Text). bytes_eq v (get_or names s [])) ((bytes_eq-Decides t u).0 is) ∙ any-at (bytes_eq u) names s (omega (arith, low)) apart.0)
+    (stands-at names t s apart.1 (omega (arith, low)))
 
 pub number-is : (names : List Text) (t : Text) (s : ℕ) → IsDistinct names → s < length names → nat_eq (number_or_last names t) s ≡ same_text t (get_or names s [])
 number-is names t s apart low = ap (λ n. nat_eq n s) (number-place names t) ∙ stands-at names t s apart low ∙ sym (same_text-bytes_eq t (get_or names s []))

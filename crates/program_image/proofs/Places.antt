@@ -1,7 +1,6 @@
 -- Where a class or a text is found.
-use Rattle.std.proofs.Common.{◌≡◌, ℕ, suc, ◌+◌, ◌<◌, ◌≤◌, Bool, true, false, ◌&&◌, List, [], ◌∷◌, map, drop, length, get_or, Option, Some, None, refl, ap, sym, ◌∙◌, subst, arith, nat_eq}
+use Rattle.std.proofs.Common.{◌≡◌, ℕ, suc, ◌+◌, ◌<◌, Bool, true, false, ◌&&◌, List, [], ◌∷◌, map, drop, length, get_or, Option, Some, None, refl, ap, sym, ◌∙◌, arith, nat_eq}
 use Rattle.std.proofs.Math.Seq.{drop-cons}
-use Rattle.std.proofs.lemmas.List.{drop_all}
 use Rattle.std.proofs.lemmas.Slice.Eq.{bytes_eq-Decides}
 use Rattle.std.specs.Str.{bytes_eq}
 use Rattle.st_code.specs.Texts.{Text, same_text}
@@ -10,7 +9,7 @@ use Rattle.st_code.specs.Definitions.{or_zero}
 use Rattle.program_image.specs.declared.class.Class.{Class}
 use Rattle.program_image.specs.Classes.{seen_class}
 
-false-from : (b : Bool) → (b ≡ true → ⊥) → b ≡ false
+pub false-from : (b : Bool) → (b ≡ true → ⊥) → b ≡ false
 false-from true not = absurd (not refl)
 false-from false not = refl
 

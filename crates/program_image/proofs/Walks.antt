@@ -1,7 +1,6 @@
 -- The walk over superclasses, which have smaller numbers.
-use Rattle.std.proofs.Common.{◌≡◌, ℕ, zero, suc, ◌+◌, ◌<◌, ◌≤◌, Bool, true, false, ◌&&◌, List, [], ◌∷◌, ◌++◌, map, length, get_or, Option, Some, None, IfSome, refl, ap, sym, ◌∙◌, subst, arith, nat_eq, nat_lt}
-use Rattle.std.proofs.lemmas.List.{map_push}
-use Rattle.std.proofs.lemmas.Bool.{ltb-true, lt-ltb}
+use Rattle.std.proofs.Common.{◌≡◌, ℕ, zero, suc, ◌+◌, ◌<◌, Bool, true, false, ◌&&◌, List, [], ◌∷◌, ◌++◌, map, length, Option, Some, None, IfSome, refl, ap, sym, ◌∙◌, arith, nat_eq, nat_lt}
+use Rattle.std.proofs.lemmas.Bool.{ltb-true, lt-ltb, eq-eqb, eqb-true}
 use Rattle.std.proofs.Math.ListN.{get_or-map}
 use Rattle.st_tree.specs.declared.units.Unit.{Unit}
 use Rattle.st_code.specs.Texts.{Text}
@@ -15,7 +14,7 @@ use Rattle.st_code.specs.Lookup.{some_superclasses, superclasses, holds, inherit
 use Rattle.program_image.specs.Classes.{is_below, falls, IsNumbered}
 use Rattle.program_image.specs.Spelled.{names_in}
 use Rattle.program_image.specs.Images.{image_names, image_program}
-use Rattle.program_image.proofs.Places.{superclass-below}
+use Rattle.program_image.proofs.Places.{superclass-below, false-from}
 use Rattle.program_image.proofs.Classes.{falls-push, first-numbered}
 
 -- ---- superclasses fall
@@ -152,3 +151,9 @@ module _ (p : Program) (lower : (i s : ℕ) → (class_at p i).superclass ≡ So
   unfolding inherits
   inherits-above class ancestor above not is =
       ap (λ cs. holds cs ancestor) (superclasses-step class (Some above) is) ∙ holds-later (nat_eq class ancestor) (holds (superclasses p above) ancestor) not
+
+pub number-same : (a b : ℕ) → a ≡ b → nat_eq a b ≡ true
+number-same a b is = eq-eqb a b is
+
+pub number-not : (a b : ℕ) → (a ≡ b → ⊥) → nat_eq a b ≡ false
+number-not a b not = false-from (nat_eq a b) (λ e. not (eqb-true a b e))

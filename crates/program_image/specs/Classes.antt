@@ -2,7 +2,7 @@
 use Rattle.std.specs.Prelude.{ℕ, suc, ◌<◌, ◌≡◌, ◌^◌, List, [], ◌∷◌, length, map, Option, Some, None, Bool, true, false, ◌&&◌, ◌||◌, nat_lt, if◌then◌else◌, codes}
 use Rattle.std.specs.Str.{bytes_eq}
 use Rattle.st_code.specs.Texts.{Text}
-use Rattle.st_code.specs.Program.{Indexed, NoIndexes}
+use Rattle.st_code.specs.Program.{NoIndexes}
 use Rattle.st_code.specs.Named.{NamedUnit}
 use Rattle.st_code.specs.Written.{indexed_by}
 use Rattle.st_code.specs.Definitions.{declared_unit}

@@ -1,5 +1,5 @@
 -- What the units of a file are to a run: names, classes, variables and methods by number, and lookup among them. Source: ANSI 3.3 and 4.
-use Rattle.std.specs.Prelude.{◌≡◌, ℕ, suc, Bool, true, false, ◌&&◌, List, [], ◌∷◌, ◌++◌, map, length, Option, Some, None, nat_eq}
+use Rattle.std.specs.Prelude.{◌≡◌, ℕ, suc, List, [], ◌∷◌, ◌++◌, map, length, Option, Some, None}
 use Rattle.std.specs.Option.{option_map}
 use Rattle.st_tree.specs.declared.units.Unit.{Unit}
 use Rattle.st_code.specs.Texts.{Text}

@@ -1,5 +1,5 @@
 -- The selectors and symbols of a program, each numbered by the place of its first spelling: first those of the built-in messages, then those of the units in the order of the text.
-use Rattle.std.specs.Prelude.{ℕ, List, [], ◌∷◌, ◌++◌, map, Option, Some, None}
+use Rattle.std.specs.Prelude.{List, [], ◌∷◌, ◌++◌, map, Option, Some, None}
 use Rattle.std.specs.Str.{bytes_eq}
 use Rattle.indexmap.specs.IndexSet.{insert_key}
 use Rattle.st_base.specs.BuiltIns.{MessageRow, messages}

@@ -216,7 +216,13 @@ impl Declarations {
         let number = classes.len() as u32;
         let superclass = superclass_place(classes, unit.superclass.as_bytes());
         let above = &classes[superclass as usize];
-        let class = Class::over(self.alloc, unit, superclass, above, self.shared.len() as u32)?;
+        let class = Class::over(
+            self.alloc,
+            unit,
+            superclass,
+            above,
+            self.shared.len() as u32,
+        )?;
         push_class_variables(&mut self.shared, number, &class.class_names)?;
         push_class_instance_variables(&mut self.shared, number, &class.class_instance_names)?;
         push_class(&mut self.classes, class)

@@ -66,10 +66,7 @@ fn spell_messages(names: &mut Names, messages: &Items<Message>) -> Result<(), Ou
 }
 
 #[cycle(spell)]
-fn spell_statements(
-    names: &mut Names,
-    statements: &Items<Statement>,
-) -> Result<(), OutOfMemory>
+fn spell_statements(names: &mut Names, statements: &Items<Statement>) -> Result<(), OutOfMemory>
     ensures { OnOk result (names.new ≡ spelled names.old (statements_texts (named_statements statements.now))) }
 {
     for statement in statements.as_slice() {

@@ -1,5 +1,4 @@
-use Rattle.std.proofs.Common.{◌≡◌, List, [], ◌∷◌, refl, codes}
-use Rattle.std.specs.Str.{bytes_eq}
+use Rattle.std.proofs.Common.{refl, codes}
 use Rattle.program_image.specs.Classes as seen
 use Rattle.program_image.proofs.Places.{bytes_eq-false}
 use Rattle.program_image.proofs.class.slots_named.Goals as goal

@@ -1,8 +1,7 @@
-use Rattle.std.proofs.Common.{◌≡◌, ◌+◌, ◌<◌, ℕ, suc, List, [], ◌∷◌, map, drop, length, refl, ap, sym, ◌∙◌, subst, arith}
-use Rattle.std.proofs.Math.Seq.{drop-cons}
+use Rattle.std.proofs.Common.{List, [], map, ap, sym, ◌∙◌}
 use Rattle.std.proofs.lemmas.List.{drop_all}
 use Rattle.st_tree.specs.declared.units.Unit.{Unit}
-use Rattle.st_code.specs.Written.{named_unit, named_units}
+use Rattle.st_code.specs.Written.{named_units}
 use Rattle.st_code.specs.Resolved.{Names}
 use Rattle.st_code.specs.Definitions.{declared_units, names_of, built_in_names}
 use Rattle.st_code.specs.BuiltIns.{built_in_class_rows}

@@ -1,4 +1,4 @@
-use Rattle.std.proofs.Common.{◌≡◌, List, map, take, refl, ap, sym, ◌∙◌}
+use Rattle.std.proofs.Common.{List, map, ap, ◌∙◌}
 use Rattle.std.proofs.lemmas.List.{take_all}
 use Rattle.st_base.specs.BuiltIns as base
 use Rattle.st_base.specs.declared.builtins.BuiltInClass.{BuiltInClass}

@@ -5,6 +5,6 @@ use Rattle.program_image.proofs.declarations.push_class_variables.Given as goal
 
 abbrev pub invariant-loop-name : goal.invariant-loop-name
 invariant-loop-name l = record {
-      added : map seen_variable l.shared ≡ map seen_variable l.fn.shared ++ map (ClassName l.class) (take l.name-index l.name-items);
-      fits : length l.shared < 2 ^ 32;
-    }
+  added : map seen_variable l.shared ≡ map seen_variable l.fn.shared ++ map (ClassName l.class) (take l.name-index l.name-items);
+  fits : length l.shared < 2 ^ 32;
+}

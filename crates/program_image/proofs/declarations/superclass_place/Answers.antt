@@ -1,4 +1,4 @@
-use Rattle.std.proofs.Common.{rules, ◌≡◌, ◌<◌, map, length, arith}
+use Rattle.std.proofs.Common.{rules, ◌≡◌, map, arith}
 use Rattle.std.proofs.lemmas.List.{length-map}
 use Rattle.st_code.specs.Resolved.{class_in}
 use Rattle.st_code.specs.Definitions.{or_zero}

@@ -1,15 +1,12 @@
-use Rattle.std.proofs.Common.{◌≡◌, ℕ, suc, ◌+◌, List, [], ◌∷◌, ◌++◌, map, drop, length, get_or, refl, ap, sym, ◌∙◌}
-use Rattle.std.proofs.Math.Seq.{drop-cons}
-use Rattle.st_tree.specs.declared.tree.Block.{out-Block}
-use Rattle.st_tree.specs.declared.tree.Body.{out-Body}
-use Rattle.st_tree.specs.declared.tree.Expr.{Expr, out-Expr}
+use Rattle.std.proofs.Common.{List, refl, ap, ◌∙◌}
+use Rattle.st_tree.specs.declared.tree.Expr.{out-Expr}
 use Rattle.st_tree.specs.declared.tree.Message.{Message, out-Message}
 use Rattle.st_tree.specs.declared.tree.Statement.{Statement}
 use Rattle.st_tree.specs.declared.tree.Operand.{Operand, out-Operand}
-use Rattle.st_code.specs.Written.{named_primary, named_statement, named_block, named_body, named_expr, named_message, named_operand, named_messages, named_operands, named_statements, named_literal}
+use Rattle.st_code.specs.Written.{named_primary, named_statement, named_expr, named_message, named_operand, named_messages, named_operands, named_statements}
 use Rattle.st_code.proofs.Written.{message-out, operand-out, expr-out, body-out, block-out, primary-variable, primary-self, primary-super, primary-literal, primary-block, primary-paren, statement-value, statement-return}
-use Rattle.program_image.specs.Spelled.{spelled, primary_texts, operand_texts, operands_texts, messages_texts, message_texts, expr_texts, statements_texts, literal_texts}
-use Rattle.program_image.proofs.Spelling.{spelled-append, spelled-one, spelled-both, spelled-then, spelled-next, spelled-end}
+use Rattle.program_image.specs.Spelled.{spelled, primary_texts, operand_texts, operands_texts, messages_texts, message_texts, expr_texts, statements_texts}
+use Rattle.program_image.proofs.Spelling.{spelled-one, spelled-both, spelled-then, spelled-next, spelled-end}
 use Rattle.program_image.proofs.spelled.+spell.Goals as goal
 
 pub spell_block-returns : goal.spell_block-returns

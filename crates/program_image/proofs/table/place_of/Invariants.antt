@@ -1,4 +1,4 @@
-use Rattle.std.proofs.Common.{◌-◌, ◌≡◌, ◌≤◌, ◌<◌, length, ℕ, get_or, true, false}
+use Rattle.std.proofs.Common.{◌-◌}
 use Rattle.program_image.specs.Tables.{Searched}
 use Rattle.program_image.proofs.table.place_of.Given as goal
 

@@ -1,5 +1,5 @@
-use Rattle.std.proofs.Common.{◌≡◌, map, [], refl, ap, sym, ◌∙◌}
-use Rattle.program_image.specs.Classes.{seen_class, seen_variable, IsNumbered}
+use Rattle.std.proofs.Common.{map}
+use Rattle.program_image.specs.Classes.{seen_class}
 use Rattle.program_image.proofs.Classes.{first-numbered}
 use Rattle.program_image.proofs.declarations.Declarations.new.Goals as goal
 

@@ -5,9 +5,9 @@ use Rattle.program_image.proofs.image.Image.inherits.Given as goal
 
 abbrev pub invariant-loop-at : goal.invariant-loop-at
 invariant-loop-at l = record {
-      there : l.at < length (image_names l.self).classes;
-      passed : inherits (image_program l.self) l.class l.ancestor ≡ inherits (image_program l.self) l.at l.ancestor;
-    }
+  there : l.at < length (image_names l.self).classes;
+  passed : inherits (image_program l.self) l.class l.ancestor ≡ inherits (image_program l.self) l.at l.ancestor;
+}
 
 abbrev pub decreases-loop-at : goal.decreases-loop-at
 decreases-loop-at l = l.at

@@ -1,7 +1,6 @@
-use Rattle.std.proofs.Common.{rules, ◌≡◌, ℕ, List}
-use Rattle.std.specs.List.Sorted.{IsSortedByKey}
+use Rattle.std.proofs.Common.{rules}
 use Rattle.std.proofs.lemmas.List.Sorted.{answers_always}
-use Rattle.program_image.specs.Tables.{key_of, key_cmp}
+use Rattle.program_image.specs.Tables.{key_of}
 use Rattle.program_image.proofs.Order.{sorted_same}
 use Rattle.program_image.proofs.Firsts.{stable-firsts}
 use Rattle.program_image.proofs.table.MethodTable.new.Goals as goal
