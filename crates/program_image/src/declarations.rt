@@ -169,9 +169,17 @@ impl Declarations {
         self.shared.as_slice()
     }
 
+    /// How many classes there are.
+    pub(crate) fn class_count(&self) -> u32
+        ensures { result ≡ length self.now.classes }
+    {
+        self.classes.len() as u32
+    }
+
     /// The number of the first class of this name. None where there is none.
     pub(crate) fn class_number(&self, name: &[u8]) -> Option<u32>
-        ensures { result ≡ class_in 0 self.now.classes name.now }
+        ensures number { result ≡ class_in 0 self.now.classes name.now }
+        ensures there { IfSome result (λ class. class < length self.now.classes) }
     {
         class_place(self.classes.as_slice(), name)
     }

@@ -1,11 +1,12 @@
 // The image of a program.
-ghost use Rattle.std.specs.Prelude.{◌≡◌, ◌<◌, [], ◌∷◌, length, map, IfOk};
+ghost use Rattle.std.specs.Prelude.{◌≡◌, ◌<◌, [], ◌∷◌, length, map, IfOk, IfSome};
+ghost use Rattle.std.specs.Option.{option_map};
 ghost use Rattle.st_code.specs.Program.{OfInstance, class_at};
 ghost use Rattle.st_code.specs.BuiltIns.{object_class};
 ghost use Rattle.st_code.specs.Resolved.{class_in};
-ghost use Rattle.st_code.specs.Lookup.{level, superclasses, inherits};
+ghost use Rattle.st_code.specs.Lookup.{level, superclasses, inherits, lookup};
 ghost use Rattle.program_image.specs.Classes.{seen_class, seen_variable};
-ghost use Rattle.program_image.specs.Images.{image_names, image_program, on_side, image_found_at, image_found_in, image_lookup};
+ghost use Rattle.program_image.specs.Images.{image_names, image_program, on_side, image_found_at, image_found_in, image_lookup, as_row};
 
 use crate::class::{Class, SharedVariable};
 use crate::declarations::{Declarations, declarations_of};
@@ -93,9 +94,17 @@ impl Image {
         self.declarations.shared()
     }
 
-    /// The number of the class of this name. None where there is none.
+    /// How many classes there are.
+    pub fn class_count(&self) -> u32
+        ensures { result ≡ length (image_names self.now).classes }
+    {
+        self.declarations.class_count()
+    }
+
+    /// The number of the first class of this name. None where there is none.
     pub fn class_number(&self, name: &[u8]) -> Option<u32>
-        ensures { result ≡ class_in 0 (image_names self.now).classes name.now }
+        ensures number { result ≡ class_in 0 (image_names self.now).classes name.now }
+        ensures there { IfSome result (λ class. class < length (image_names self.now).classes) }
     {
         self.declarations.class_number(name)
     }
@@ -166,11 +175,8 @@ impl Image {
         }
     }
 
-    /// The method or built-in message that a receiver finds for a selector (ANSI NCITS 319, 3.3).
-    /// Lookup begins at the class on the side, and walks the superclasses; on the side of the class
-    /// it ends at class `Class` and `Object`, and for a metaclass it is `Metaclass` and `Object`.
-    /// None where no class on the walk has the selector.
-    pub fn lookup(&self, side: Side, class: u32, selector: u32) -> Option<Found>
+    // What the walk from a class on a side finds.
+    fn found_on_walk(&self, side: Side, class: u32, selector: u32) -> Option<Found>
         requires class { class < length (image_names self.now).classes }
         requires selector { selector < length (image_names self.now).names }
         ensures { result ≡ image_lookup self.now side class selector }
@@ -183,5 +189,18 @@ impl Image {
             },
             Side::Meta => self.found_behind(METACLASS, selector),
         }
+    }
+
+    /// The method or built-in message that a receiver finds for a selector (ANSI NCITS 319, 3.3).
+    /// Lookup begins at the class on the side, and walks the superclasses; on the side of the class
+    /// it ends at class `Class` and `Object`, and for a metaclass it is `Metaclass` and `Object`.
+    /// None where no class on the walk has the selector.
+    pub fn lookup(&self, side: Side, class: u32, selector: u32) -> Option<Found>
+        requires class { class < length (image_names self.now).classes }
+        requires selector { selector < length (image_names self.now).names }
+        ensures number { result ≡ image_lookup self.now side class selector }
+        ensures row { option_map as_row result ≡ lookup (image_program self.now) (level (on_side side) class) selector }
+    {
+        self.found_on_walk(side, class, selector)
     }
 }

@@ -7,6 +7,8 @@ mod image;
 mod methods;
 mod spelled;
 mod table;
+#[cfg(test)]
+mod tests;
 
 pub use class::{Class, SharedVariable};
 pub use image::{Image, build};
