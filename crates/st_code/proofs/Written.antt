@@ -6,16 +6,16 @@ use Rattle.st_tree.specs.declared.tree.Literal.TheVariants as literal
 use Rattle.st_tree.specs.declared.tree.Literal.TheOpen.{Literal-F}
 use Rattle.st_tree.specs.declared.tree.Literal.TheFolds.{fold-roll-Literal}
 use Rattle.st_tree.specs.declared.tree.Primary.TheOpen.{Primary-F, Statement-F}
-use Rattle.st_tree.specs.declared.tree.Primary.TheFolds.{fold-roll-Primary, fold-roll-Statement, fold-roll-Block, fold-roll-Body, fold-roll-Expr, fold-roll-Message, fold-roll-Operand}
+use Rattle.st_tree.specs.declared.tree.Primary.TheFolds.{fold-roll-Primary, fold-roll-Statement, fold-roll-Block, fold-roll-Body, fold-roll-Expr, fold-roll-Message, fold-roll-Operand, fold_out-Block, fold_out-Body, fold_out-Expr, fold_out-Message, fold_out-Operand}
 use Rattle.st_tree.specs.declared.tree.Primary.{Primary}
 use Rattle.st_tree.specs.declared.tree.Primary.TheVariants as primary
 use Rattle.st_tree.specs.declared.tree.Statement.{Statement}
 use Rattle.st_tree.specs.declared.tree.Statement.TheVariants as statement
-use Rattle.st_tree.specs.declared.tree.Block.{Block, roll-Block}
-use Rattle.st_tree.specs.declared.tree.Body.{Body, roll-Body}
-use Rattle.st_tree.specs.declared.tree.Expr.{Expr, roll-Expr}
-use Rattle.st_tree.specs.declared.tree.Message.{Message, roll-Message}
-use Rattle.st_tree.specs.declared.tree.Operand.{Operand, roll-Operand}
+use Rattle.st_tree.specs.declared.tree.Block.{Block, roll-Block, out-Block}
+use Rattle.st_tree.specs.declared.tree.Body.{Body, roll-Body, out-Body}
+use Rattle.st_tree.specs.declared.tree.Expr.{Expr, roll-Expr, out-Expr}
+use Rattle.st_tree.specs.declared.tree.Message.{Message, roll-Message, out-Message}
+use Rattle.st_tree.specs.declared.tree.Operand.{Operand, roll-Operand, out-Operand}
 use Rattle.st_tree.specs.declared.units.UnitKind.TheVariants as kind
 use Rattle.st_tree.specs.Trees as tree
 use Rattle.st_tree.specs.Numbers.{unit}
@@ -23,16 +23,16 @@ use Rattle.st_code.specs.Texts.{Text}
 use Rattle.st_code.specs.Named.{Literal as NamedLiteral, NilLiteral, TrueLiteral, FalseLiteral, IntegerLiteral, CharacterLiteral, StringLiteral, SymbolLiteral, ArrayLiteral, NamedPrimary, NameOf, SelfName, SuperName, LiteralOf, BlockOf, ParenOf, NamedOperand, OperandOf, no_operands, more_operands, NamedOperands, none_sent, then_sent, NamedExpr, ExprOf, NamedStatements, no_statements, more_statements, NamedBody, MethodUnit}
 use Rattle.st_code.specs.Written.{name_text, literal_row, named_literal, NamedStatement, NamedBlock, NamedMessage, literal_step, primary_step, statement_step, block_step, body_step, expr_step, message_step, operand_step, named_primary, named_statement, named_block, named_body, named_expr, named_message, named_operand, named_messages, named_operands, named_statements, named_units}
 
-abbrev a_message : Text → NamedOperands → NamedMessage
+abbrev pub a_message : Text → NamedOperands → NamedMessage
 a_message selector arguments = record { selector = selector; arguments = arguments }
 
-abbrev a_statement : Bool → NamedExpr → NamedStatement
+abbrev pub a_statement : Bool → NamedExpr → NamedStatement
 a_statement returns e = record { returns = returns; expr = e }
 
-abbrev a_body : List Text → NamedStatements → NamedBody
+abbrev pub a_body : List Text → NamedStatements → NamedBody
 a_body temporaries statements = record { temporaries = temporaries; statements = statements }
 
-abbrev a_block : List Text → NamedBody → NamedBlock
+abbrev pub a_block : List Text → NamedBody → NamedBlock
 a_block parameters body = record { parameters = parameters; body = body }
 
 -- ---- literals
@@ -128,6 +128,28 @@ pub block-roll : (at : ℕ) (parameters : List Name) (b : Body)
     → named_block (roll-Block (record { at = at; parameters = parameters; body = b })) ≡ a_block (map name_text parameters) (named_body b)
 unfolding named_block named_body
 block-roll at parameters b = fold-roll-Block NamedPrimary NamedStatement NamedBlock NamedBody NamedExpr NamedMessage NamedOperand primary_step statement_step block_step body_step expr_step message_step operand_step (record { at = at; parameters = parameters; body = b })
+
+-- ---- the same of trees that are opened
+
+pub message-out : (m : Message) → named_message m ≡ a_message (out-Message m).selector (named_operands (out-Message m).arguments)
+unfolding named_message named_operand
+message-out m = fold_out-Message NamedPrimary NamedStatement NamedBlock NamedBody NamedExpr NamedMessage NamedOperand primary_step statement_step block_step body_step expr_step message_step operand_step m
+
+pub operand-out : (o : Operand) → named_operand o ≡ OperandOf (named_primary (out-Operand o).primary) (named_messages (out-Operand o).chain)
+unfolding named_operand named_primary named_message
+operand-out o = fold_out-Operand NamedPrimary NamedStatement NamedBlock NamedBody NamedExpr NamedMessage NamedOperand primary_step statement_step block_step body_step expr_step message_step operand_step o
+
+pub expr-out : (e : Expr) → named_expr e ≡ ExprOf (map name_text (out-Expr e).targets) (named_operand (out-Expr e).operand) (named_messages (out-Expr e).cascade)
+unfolding named_expr named_operand named_message
+expr-out e = fold_out-Expr NamedPrimary NamedStatement NamedBlock NamedBody NamedExpr NamedMessage NamedOperand primary_step statement_step block_step body_step expr_step message_step operand_step e
+
+pub body-out : (b : Body) → named_body b ≡ a_body (map name_text (out-Body b).temporaries) (named_statements (out-Body b).statements)
+unfolding named_body named_statement
+body-out b = fold_out-Body NamedPrimary NamedStatement NamedBlock NamedBody NamedExpr NamedMessage NamedOperand primary_step statement_step block_step body_step expr_step message_step operand_step b
+
+pub block-out : (b : Block) → named_block b ≡ a_block (map name_text (out-Block b).parameters) (named_body (out-Block b).body)
+unfolding named_block named_body
+block-out b = fold_out-Block NamedPrimary NamedStatement NamedBlock NamedBody NamedExpr NamedMessage NamedOperand primary_step statement_step block_step body_step expr_step message_step operand_step b
 
 -- ---- a comment, and `Account method! balance: n ^total := n + 1!`
 

@@ -12,20 +12,20 @@ use Rattle.st_code.specs.Literals.{trouble_literals}
 
 -- ---- what the units declare
 
-abbrev built_in_names : ClassRow → ClassNames
+abbrev pub built_in_names : ClassRow → ClassNames
 built_in_names row = record { row = row; base = row.slots; instance_names = []; class_instance_names = []; class_names = []; pools = [] }
 
-abbrev or_zero : Option ℕ → ℕ
+abbrev pub or_zero : Option ℕ → ℕ
 or_zero (Some n) = n
 or_zero None = 0
 
 -- a class without a way to be indexed takes its superclass's
-abbrev indexed_as : Indexed → Indexed → Indexed
+abbrev pub indexed_as : Indexed → Indexed → Indexed
 indexed_as NoIndexes above = above
 indexed_as own above = own
 
 -- a class of the file over its superclass, where so many variables were declared before
-abbrev class_over : NamedClass → ℕ → ClassNames → ℕ → ClassNames
+abbrev pub class_over : NamedClass → ℕ → ClassNames → ℕ → ClassNames
 class_over c superclass above variables =
     record {
       row = record {
@@ -43,25 +43,25 @@ class_over c superclass above variables =
       pools = c.pools;
     }
 
-abbrev class_variables : ℕ → ClassNames → List SharedName
+abbrev pub class_variables : ℕ → ClassNames → List SharedName
 class_variables class c = map (ClassName class) c.class_names ++ map (ClassInstanceName class) c.class_instance_names
 
-abbrev with_class : Names → ClassNames → Names
+abbrev pub with_class : Names → ClassNames → Names
 with_class x c = record x { classes = x.classes ++ c ∷ []; shared = x.shared ++ class_variables (length x.classes) c }
 
-abbrev with_shared : Names → SharedName → Names
+abbrev pub with_shared : Names → SharedName → Names
 with_shared x v = record x { shared = x.shared ++ v ∷ [] }
 
-abbrev declared_class : Names → NamedClass → Names
+abbrev pub declared_class : Names → NamedClass → Names
 declared_class x c = let superclass = or_zero (class_in 0 x.classes c.superclass) in with_class x (class_over c superclass (class_names_at x.classes superclass) (length x.shared))
 
-abbrev declared_unit : Names → NamedUnit → Names
+abbrev pub declared_unit : Names → NamedUnit → Names
 declared_unit x (ClassUnit c) = declared_class x c
 declared_unit x (GlobalUnit name) = with_shared x (GlobalName name)
 declared_unit x (PoolVariableUnit pool name) = with_shared x (PoolName pool name)
 declared_unit x u = x
 
-abbrev declared_units : Names → List NamedUnit → Names
+abbrev pub declared_units : Names → List NamedUnit → Names
 declared_units x [] = x
 declared_units x (u ∷ units) = declared_units (declared_unit x u) units
 
@@ -134,7 +134,7 @@ pub record RunLimits : Type 0 where
   pub depth : ℕ
   pub cells : ℕ
 
-abbrev class_row : ClassNames → ClassRow
+abbrev pub class_row : ClassNames → ClassRow
 class_row c = c.row
 
 abbrev program_with : Names → Defined → RunLimits → Program

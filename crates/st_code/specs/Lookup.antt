@@ -31,7 +31,7 @@ level_of s Transcript = level OfInstance transcript_writer_class
 level_of s (Object number) = level OfInstance (object_at number s).class
 
 -- at most so many classes, from this one up
-abbrev some_superclasses : Program → ℕ → ℕ → List ℕ
+abbrev pub some_superclasses : Program → ℕ → ℕ → List ℕ
 some_superclasses p zero class = []
 some_superclasses p (suc n) class = class ∷ elim (class_at p class).superclass [ None ↦ [] | Some above ↦ some_superclasses p n above ]
 
@@ -39,7 +39,7 @@ some_superclasses p (suc n) class = class ∷ elim (class_at p class).superclass
 unfoldable pub superclasses : Program → ℕ → List ℕ
 superclasses p class = some_superclasses p (suc class) class
 
-abbrev holds : List ℕ → ℕ → Bool
+abbrev pub holds : List ℕ → ℕ → Bool
 holds [] n = false
 holds (m ∷ ms) n = elim (nat_eq m n) [ true ↦ true | false ↦ holds ms n ]
 
@@ -61,7 +61,7 @@ pub data Found : Type 0 where
   UserMethod : (code : ℕ) → Found
   BuiltIn : Row → Found
 
-abbrev is_method : Level → ℕ → MethodRow → Bool
+abbrev pub is_method : Level → ℕ → MethodRow → Bool
 is_method l selector m = nat_eq m.selector selector && nat_eq m.class l.class && same_side m.side l.side
 
 -- the method of this selector at this level

@@ -63,7 +63,7 @@ pub data SharedName : Type 0 where
   ClassName : (class : ℕ) → (name : Text) → SharedName
   ClassInstanceName : (class : ℕ) → (name : Text) → SharedName
 
-abbrev same_shared : SharedName → SharedName → Bool
+abbrev pub same_shared : SharedName → SharedName → Bool
 same_shared (GlobalName t) (GlobalName u) = same_text t u
 same_shared (PoolName p t) (PoolName q u) = same_text p q && same_text t u
 same_shared (ClassName c t) (ClassName d u) = nat_eq c d && same_text t u
@@ -74,7 +74,7 @@ abbrev pub place_in : ℕ → List SharedName → SharedName → Option ℕ
 place_in n [] x = None
 place_in n (y ∷ ys) x = elim (same_shared y x) [ true ↦ Some n | false ↦ place_in (suc n) ys x ]
 
-abbrev text_in : ℕ → List Text → Text → Option ℕ
+abbrev pub text_in : ℕ → List Text → Text → Option ℕ
 text_in n [] t = None
 text_in n (u ∷ us) t = elim (same_text u t) [ true ↦ Some n | false ↦ text_in (suc n) us t ]
 
@@ -93,7 +93,7 @@ pub record Names : Type 0 where
   pub classes : List ClassNames
   pub shared : List SharedName
 
-abbrev no_names : ClassNames
+abbrev pub no_names : ClassNames
 no_names = record { row = record { name = []; superclass = None; in_file = false; indexed = NoIndexes; slots = 0; class_slots = 0 }; base = 0; instance_names = []; class_instance_names = []; class_names = []; pools = [] }
 
 abbrev pub class_names_at : List ClassNames → ℕ → ClassNames

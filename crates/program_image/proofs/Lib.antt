@@ -1,0 +1,10 @@
+pub mod Spelling
+pub mod Places
+pub mod Classes
+pub mod Declared
+pub mod Order
+pub mod Firsts
+pub mod Numbers
+pub mod Walks
+pub mod Entries
+pub mod Lookups

@@ -1,0 +1,4 @@
+pub mod Spelled
+pub mod Classes
+pub mod Tables
+pub mod Images

@@ -1,0 +1,15 @@
+// A program with its names, classes, variables and methods by number, and lookup among them. It takes a definition whole; every class, selector and variable of it gets the number that the run uses.
+#![tactic(auto)]
+
+mod class;
+mod declarations;
+mod image;
+mod methods;
+mod spelled;
+mod table;
+#[cfg(test)]
+mod tests;
+
+pub use class::{Class, SharedVariable};
+pub use image::{Image, build};
+pub use table::{Found, Side};
