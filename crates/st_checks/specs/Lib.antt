@@ -1,0 +1,5 @@
+pub mod Declarations
+pub mod Bodies
+pub mod Meanings
+pub mod StaticRules
+pub mod Breaks
