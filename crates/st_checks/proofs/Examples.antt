@@ -17,10 +17,10 @@ use Rattle.st_tree.specs.declared.units.Indexed.TheVariants as indexes
 use Rattle.st_tree.specs.declared.units.UnitKind.{UnitKind}
 use Rattle.st_tree.specs.declared.units.UnitKind.TheVariants as kinds
 use Rattle.st_tree.specs.declared.units.Unit.{Unit}
-use Rattle.st_checks.specs.Declarations.{ancestors, is_built_in_method}
+use Rattle.st_checks.specs.Declarations.{ancestors, is_built_in, is_built_in_method, built_in_number, superclasses}
 use Rattle.st_checks.specs.Bodies.{Scope, Within, OfBody, mention, nothing_named, only_mentions, both, all_within, in_own_scope, in_primary, in_statement, in_block, in_body, in_expr, in_message, in_operand, names_in_primary, names_in_statement, names_in_body, names_in_expr, names_in_message, names_in_operand}
 use Rattle.st_checks.specs.Meanings.{meaning_outside}
-use Rattle.st_checks.specs.StaticRules.{first_break, unit_break, repeated_name, undeclared_name, fixed_name, broken, place_at}
+use Rattle.st_checks.specs.StaticRules.{first_break, unit_fault, repeated_name, undeclared_name, fixed_name, broken, place_at}
 use Rattle.st_checks.proofs.Naming.{variable_in, literal_in, return_in}
 
 abbrev version : Unit
@@ -71,10 +71,10 @@ method_1 = kinds.Method (codes "Q") (unary (codes "m") (body [] (answer (constan
 
 -- `Q method!m ^x!` `Q method!m ^1!`: the earlier unit is refused
 pub earlier_unit : first_break (version ∷ plain (codes "Q") ∷ unit method_x [] ∷ unit method_1 [] ∷ []) ≡ Some (broken (place_at 4 3) reasons.UndeclaredName)
-unfolding first_break unit_break repeated_name undeclared_name fixed_name meaning_outside ancestors is_built_in_method classes messages
+unfolding first_break unit_fault repeated_name undeclared_name fixed_name meaning_outside ancestors is_built_in is_built_in_method built_in_number superclasses classes messages
 earlier_unit = rw (answers-variable (name (codes "x") 3)) refl
 
 -- `Q method!m ^1!` `Q method!m ^x!`: of two rules that one unit breaks, the lower
 pub lower_rule : first_break (version ∷ plain (codes "Q") ∷ unit method_1 [] ∷ unit method_x [] ∷ []) ≡ Some (broken (place_at 5 0) reasons.DuplicateMethod)
-unfolding first_break unit_break repeated_name undeclared_name fixed_name meaning_outside ancestors is_built_in_method classes messages
+unfolding first_break unit_fault repeated_name undeclared_name fixed_name meaning_outside ancestors is_built_in is_built_in_method built_in_number superclasses classes messages
 lower_rule = rw (answers-variable (name (codes "x") 3), answers-number 1) refl

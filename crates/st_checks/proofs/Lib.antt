@@ -1,2 +1,5 @@
 pub mod Naming
 mod Examples
+pub mod Places
+pub mod BuiltIns
+pub mod Keys

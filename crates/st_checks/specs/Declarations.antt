@@ -1,7 +1,8 @@
 -- What the units of a file declare, and which names are built in (ANSI NCITS 319, 4.1, 5).
 use Rattle.std.specs.Prelude.{ℕ, zero, suc, Bool, true, false, ◌&&◌, ◌||◌, List, [], ◌∷◌, length, Option, None, Some, codes, nat_eq, if◌then◌else◌}
 use Rattle.std.specs.Str.{bytes_eq}
-use Rattle.std.specs.List.{list_any, find, position}
+use Rattle.std.specs.List.{list_any, find}
+use Rattle.std.specs.Option.{option_map}
 use Rattle.st_base.specs.BuiltIns.{classes, messages, MessageRow}
 use Rattle.st_base.specs.declared.builtins.MethodSide.{MethodSide}
 use Rattle.st_base.specs.declared.builtins.MethodSide.TheVariants as sides
@@ -16,15 +17,20 @@ Text = List ℕ
 
 -- ---- what is built in
 
--- the number of the built-in class of this name
-abbrev pub built_in_number : Text → Option ℕ
-built_in_number name = position (λ c. bytes_eq name c.name) classes
+-- the first place, from 0, of an element that passes
+abbrev pub first_place : {A : Type 0} → (A → Bool) → List A → Option ℕ
+first_place p [] = None
+first_place p (x ∷ xs) = if p x then Some 0 else option_map suc (first_place p xs)
 
-abbrev pub is_built_in : Text → Bool
+-- the number of the built-in class of this name
+unfoldable pub built_in_number : Text → Option ℕ
+built_in_number name = first_place (λ c. bytes_eq name c.name) classes
+
+unfoldable pub is_built_in : Text → Bool
 is_built_in name = list_any (λ c. bytes_eq name c.name) classes
 
 -- the built-in classes that a class of the file may have as its superclass
-abbrev pub superclasses : List Text
+unfoldable pub superclasses : List Text
 superclasses = codes "Object" ∷ codes "Exception" ∷ codes "Error" ∷ codes "ZeroDivide" ∷ codes "MessageNotUnderstood" ∷ codes "Notification" ∷ codes "Warning" ∷ []
 
 abbrev pub same_side : MethodSide → MethodSide → Bool
@@ -36,7 +42,7 @@ same_side _ _ = false
 abbrev pub is_message : ℕ → MethodSide → Text → MessageRow → Bool
 is_message class side selector m = nat_eq m.class class && same_side m.side side && bytes_eq selector m.selector
 
-abbrev has_message : Option ℕ → MethodSide → Text → Bool
+abbrev pub has_message : Option ℕ → MethodSide → Text → Bool
 has_message None side selector = false
 has_message (Some class) side selector = list_any (is_message class side selector) messages
 

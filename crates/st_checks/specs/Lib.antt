@@ -3,3 +3,4 @@ pub mod Bodies
 pub mod Meanings
 pub mod StaticRules
 pub mod Breaks
+pub mod Keys

@@ -2,7 +2,7 @@
 use Rattle.std.specs.Prelude.{◌≡◌, ℕ, suc, ◌+◌, Bool, true, false, not, ◌||◌, ◌&&◌, List, [], ◌∷◌, ◌++◌, Option, None, Some, take, min, if◌then◌else◌}
 use Rattle.std.specs.Str.{bytes_eq}
 use Rattle.std.specs.List.{list_any}
-use Rattle.std.specs.Option.{option_or, option_and_then}
+use Rattle.std.specs.Option.{option_map, option_or, option_and_then}
 use Rattle.st_base.specs.declared.builtins.MethodSide.TheVariants as sides
 use Rattle.st_base.specs.declared.faults.Place.{Place}
 use Rattle.st_base.specs.declared.faults.Reason.{Reason}
@@ -132,7 +132,47 @@ fixed_name units w = least (fixed_in units w (naming w).mentions)
 
 -- ---- the first break
 
--- a place and the rule that is broken there
+-- a rule that a unit breaks: at a byte of its body, or as a whole
+pub record Fault : Type 0 where
+  pub reason : Reason
+  pub body_byte : Option ℕ
+
+abbrev pub as_whole : Reason → Bool → Option Fault
+as_whole reason true = Some (record { reason = reason; body_byte = None })
+as_whole reason false = None
+
+abbrev pub in_body : Reason → Option ℕ → Option Fault
+in_body reason None = None
+in_body reason (Some byte) = Some (record { reason = reason; body_byte = Some byte })
+
+-- each rule in turn
+abbrev pub faults : (before units : List Unit) → UnitKind → List (Option Fault)
+faults before units kind =
+    as_whole reasons.DuplicateClass (duplicates_class before kind)
+    ∷ as_whole reasons.DuplicateName (duplicates_name before kind)
+    ∷ as_whole reasons.UnknownSuperclass (lacks_superclass before kind)
+    ∷ as_whole reasons.IndexedClash (clashes units kind)
+    ∷ as_whole reasons.DuplicateVariable (duplicates_variable units kind)
+    ∷ in_body reasons.DuplicateVariable (option_and_then repeated_name (written units kind))
+    ∷ as_whole reasons.UnknownPool (lacks_pool units kind)
+    ∷ as_whole reasons.UnknownClass (lacks_class units kind)
+    ∷ as_whole reasons.ReplacesBuiltin (replaces_built_in kind)
+    ∷ as_whole reasons.DuplicateMethod (duplicates_method before kind)
+    ∷ as_whole reasons.UnknownTarget (lacks_target units kind)
+    ∷ as_whole reasons.SecondInitializer (initializes_again before kind)
+    ∷ in_body reasons.UndeclaredName (option_and_then (undeclared_name units) (written units kind))
+    ∷ in_body reasons.NotAssignable (option_and_then (fixed_name units) (written units kind))
+    ∷ []
+
+abbrev pub first_some : {A : Type 0} → List (Option A) → Option A
+first_some [] = None
+first_some (o ∷ more) = option_or o (first_some more)
+
+-- the first rule that the n-th unit, counted from 0, breaks
+unfoldable pub unit_fault : List Unit → ℕ → UnitKind → Option Fault
+unit_fault units n kind = first_some (faults (take n units) units kind)
+
+-- a rule that is broken, and where
 pub record Break : Type 0 where
   pub place : Place
   pub reason : Reason
@@ -143,47 +183,14 @@ broken place reason = record { place = place; reason = reason }
 abbrev pub place_at : ℕ → ℕ → Place
 place_at element byte = record { element = element; byte = byte }
 
--- a rule on the unit as a whole, at its first element
-abbrev pub at_unit : ℕ → Reason → Bool → Option Break
-at_unit element reason true = Some (broken (place_at element 0) reason)
-at_unit element reason false = None
-
--- a rule on the unit's body, which is its second element
-abbrev pub at_body : ℕ → Reason → Option ℕ → Option Break
-at_body element reason None = None
-at_body element reason (Some byte) = Some (broken (place_at (element + 1) byte) reason)
-
--- the rules in their order, of a unit whose first element has this number
-abbrev pub breaks : (before units : List Unit) → ℕ → UnitKind → List (Option Break)
-breaks before units element kind =
-    at_unit element reasons.DuplicateClass (duplicates_class before kind)
-    ∷ at_unit element reasons.DuplicateName (duplicates_name before kind)
-    ∷ at_unit element reasons.UnknownSuperclass (lacks_superclass before kind)
-    ∷ at_unit element reasons.IndexedClash (clashes units kind)
-    ∷ at_unit element reasons.DuplicateVariable (duplicates_variable units kind)
-    ∷ at_body element reasons.DuplicateVariable (option_and_then repeated_name (written units kind))
-    ∷ at_unit element reasons.UnknownPool (lacks_pool units kind)
-    ∷ at_unit element reasons.UnknownClass (lacks_class units kind)
-    ∷ at_unit element reasons.ReplacesBuiltin (replaces_built_in kind)
-    ∷ at_unit element reasons.DuplicateMethod (duplicates_method before kind)
-    ∷ at_unit element reasons.UnknownTarget (lacks_target units kind)
-    ∷ at_unit element reasons.SecondInitializer (initializes_again before kind)
-    ∷ at_body element reasons.UndeclaredName (option_and_then (undeclared_name units) (written units kind))
-    ∷ at_body element reasons.NotAssignable (option_and_then (fixed_name units) (written units kind))
-    ∷ []
-
-abbrev pub first_some : {A : Type 0} → List (Option A) → Option A
-first_some [] = None
-first_some (o ∷ more) = option_or o (first_some more)
-
--- the first rule that the n-th unit breaks
-unfoldable pub unit_break : List Unit → ℕ → UnitKind → Option Break
-unit_break units n kind = first_some (breaks (take n units) units (element_of units n) kind)
+-- a fault of a unit whose first element has this number: at that element as a whole, or in the next, which is its body
+abbrev pub break_of : ℕ → Fault → Break
+break_of element f = elim f.body_byte [ None ↦ broken (place_at element 0) f.reason | Some byte ↦ broken (place_at (element + 1) byte) f.reason ]
 
 -- the first break among the n-th unit and those behind it
 abbrev pub first_break_from : List Unit → ℕ → List Unit → Option Break
 first_break_from units n [] = None
-first_break_from units n (u ∷ more) = option_or (unit_break units n u.kind) (first_break_from units (suc n) more)
+first_break_from units n (u ∷ more) = option_or (option_map (break_of (element_of units n)) (unit_fault units n u.kind)) (first_break_from units (suc n) more)
 
 -- The first unit that breaks a rule, the first rule that it breaks, and the least place of a name that breaks it.
 unfoldable pub first_break : List Unit → Option Break

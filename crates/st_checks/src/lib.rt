@@ -1,2 +1,6 @@
-// The static rules of a program: each unit against the others, and the names in its bodies.
+// x
 #![tactic(auto)]
+
+mod built_in;
+mod key;
+mod table;

@@ -1,0 +1,2 @@
+use Rattle.st_checks.specs.Keys.{first_unit}
+use Rattle.st_checks.proofs.table.Table.first.Goals as goal
