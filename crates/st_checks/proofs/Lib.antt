@@ -3,3 +3,5 @@ mod Examples
 pub mod Places
 pub mod BuiltIns
 pub mod Keys
+pub mod NameLists
+pub mod Ancestors

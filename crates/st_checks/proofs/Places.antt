@@ -3,7 +3,7 @@ use Rattle.std.proofs.Common.{◌≡◌, ◌+◌, ℕ, zero, suc, ◌<◌, Bool,
 use Rattle.std.specs.List.{list_any, find}
 use Rattle.std.specs.Option.{option_map}
 use Rattle.std.proofs.lemmas.List.{take_more, length-take}
-use Rattle.std.proofs.lemmas.List.Folds.{list_any_more}
+use Rattle.std.proofs.lemmas.List.Folds.{list_any_more, list_any_at}
 use Rattle.std.proofs.lemmas.Bool.Decides.{nat_tests}
 use Rattle.st_checks.specs.Declarations.{first_place}
 use Rattle.st_checks.specs.Keys.{noted}
@@ -122,3 +122,10 @@ find-step false x xs o f h = h ∙ placed-suc x xs o
 pub find-placed : {A : Type 0} (p : A → Bool) (xs : List A) → find p xs ≡ placed xs (first_place p xs)
 find-placed p [] = refl
 find-placed p (x ∷ xs) = find-step (p x) x xs (first_place p xs) (find p xs) (find-placed p xs)
+
+-- ---- a loop over a list that is mapped
+
+pub list_any_mapped : {A B : Type 0} (f : A → B) (p : B → Bool) (xs : List A) (i : ℕ) (x d : A) → i < length xs → x ≡ get_or xs i d → p (f x) ≡ true → true ≡ list_any p (map f xs)
+list_any_mapped f p xs i x d low is here =
+    let there : p (f (get_or xs i d)) ≡ true = rw (← is) here in
+    sym (list_any-map f p xs ∙ list_any_at (λ x. p (f x)) xs i d low there)

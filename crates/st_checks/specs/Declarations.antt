@@ -100,15 +100,16 @@ class_of_unit (Some u) = elim u.kind [ kinds.Class c ↦ Some c | _ ↦ None ]
 abbrev pub class_named : List Unit → Text → Option ClassUnit
 class_named units name = if is_built_in name then None else class_of_unit (find (declares_class name) units)
 
--- at most so many classes of the file, from the one of this name upwards
-abbrev some_ancestors : ℕ → List Unit → Text → List ClassUnit
-some_ancestors zero units name = []
-some_ancestors (suc n) units name = elim (class_named units name) [ None ↦ [] | Some c ↦ c ∷ some_ancestors n units c.superclass ]
+-- at most so many classes of the file, from this one upwards
+abbrev pub from_class : ℕ → List Unit → Option ClassUnit → List ClassUnit
+from_class zero units c = []
+from_class (suc n) units None = []
+from_class (suc n) units (Some c) = c ∷ from_class n units (class_named units c.superclass)
 
 -- The class of this name and its superclasses, upwards, as far as the file declares them: built-in classes have no
 -- variables. Where they form a circle, which some unit is refused for, each stands here at least once.
 unfoldable pub ancestors : List Unit → Text → List ClassUnit
-ancestors units name = some_ancestors (length units) units name
+ancestors units name = from_class (length units) units (class_named units name)
 
 -- how the instances are indexed: in the way of the first of these classes that says so
 abbrev pub way : List ClassUnit → Indexed

@@ -4,3 +4,4 @@ pub mod Meanings
 pub mod StaticRules
 pub mod Breaks
 pub mod Keys
+pub mod Lists

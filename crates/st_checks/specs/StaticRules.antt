@@ -43,7 +43,7 @@ clashes units _ = false
 abbrev pub duplicates_variable : (units : List Unit) → UnitKind → Bool
 duplicates_variable units (kinds.Class c) =
     repeats c.instance_names || repeats c.class_names || repeats c.pools || repeats c.class_instance_names
-    || list_any (λ above. share c.instance_names above.instance_names || share c.class_instance_names above.class_instance_names) (ancestors units c.superclass)
+    || list_any (λ above. share above.instance_names c.instance_names || share above.class_instance_names c.class_instance_names) (ancestors units c.superclass)
 duplicates_variable units _ = false
 
 abbrev pub lacks_pool : (units : List Unit) → UnitKind → Bool

@@ -1,6 +1,9 @@
-// x
+// The static rules. A program goes in; out comes the same program as one that meets the rules, or the first break: the
+// first unit that breaks a rule, and the first rule that it breaks. What the rules are stands in specs/.
 #![tactic(auto)]
 
 mod built_in;
 mod key;
+mod line;
+mod lists;
 mod table;
