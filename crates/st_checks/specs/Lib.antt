@@ -5,3 +5,4 @@ pub mod StaticRules
 pub mod Breaks
 pub mod Keys
 pub mod Lists
+pub mod Faults

@@ -9,6 +9,7 @@ use Rattle.st_base.specs.declared.faults.Reason.{Reason}
 use Rattle.st_base.specs.declared.faults.Reason.TheVariants as reasons
 use Rattle.st_tree.specs.Numbers.{element_of}
 use Rattle.st_tree.specs.declared.tree.Name.{Name}
+use Rattle.st_tree.specs.declared.units.ClassUnit.{ClassUnit}
 use Rattle.st_tree.specs.declared.units.UnitKind.{UnitKind}
 use Rattle.st_tree.specs.declared.units.UnitKind.TheVariants as kinds
 use Rattle.st_tree.specs.declared.units.Unit.{Unit}
@@ -39,11 +40,14 @@ abbrev pub clashes : (units : List Unit) → UnitKind → Bool
 clashes units (kinds.Class c) = clash c.indexed (way (ancestors units c.superclass))
 clashes units _ = false
 
--- a list of the class has a name twice, or a superclass has the variable
+-- a list of the class has a name twice, or one of the classes above it has the variable
+abbrev pub repeats_variable : (above : List ClassUnit) → ClassUnit → Bool
+repeats_variable above c =
+    repeats c.instance_names || (repeats c.class_names || (repeats c.pools || (repeats c.class_instance_names
+    || list_any (λ a. share a.instance_names c.instance_names || share a.class_instance_names c.class_instance_names) above)))
+
 abbrev pub duplicates_variable : (units : List Unit) → UnitKind → Bool
-duplicates_variable units (kinds.Class c) =
-    repeats c.instance_names || repeats c.class_names || repeats c.pools || repeats c.class_instance_names
-    || list_any (λ above. share above.instance_names c.instance_names || share above.class_instance_names c.class_instance_names) (ancestors units c.superclass)
+duplicates_variable units (kinds.Class c) = repeats_variable (ancestors units c.superclass) c
 duplicates_variable units _ = false
 
 abbrev pub lacks_pool : (units : List Unit) → UnitKind → Bool

@@ -2,8 +2,11 @@
 // first unit that breaks a rule, and the first rule that it breaks. What the rules are stands in specs/.
 #![tactic(auto)]
 
+mod bodies;
 mod built_in;
 mod key;
 mod line;
 mod lists;
+mod rules;
+mod stop;
 mod table;
