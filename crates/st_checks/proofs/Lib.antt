@@ -5,3 +5,6 @@ pub mod BuiltIns
 pub mod Keys
 pub mod NameLists
 pub mod Ancestors
+pub mod Leasts
+pub mod Repeats
+pub mod Variables

@@ -6,3 +6,6 @@ pub mod Breaks
 pub mod Keys
 pub mod Lists
 pub mod Faults
+pub mod NameSets
+pub mod Views
+pub mod Walks

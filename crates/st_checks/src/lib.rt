@@ -4,9 +4,13 @@
 
 mod bodies;
 mod built_in;
+mod classes;
 mod key;
 mod line;
 mod lists;
+mod meaning;
 mod rules;
+mod scopes;
 mod stop;
 mod table;
+mod view;
