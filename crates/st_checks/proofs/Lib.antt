@@ -8,3 +8,4 @@ pub mod Ancestors
 pub mod Leasts
 pub mod Repeats
 pub mod Variables
+pub mod Outside

@@ -1,9 +1,8 @@
 // From where a body sees the names that it doesn't declare itself.
-ghost use Rattle.std.specs.Prelude.{◌≡◌, IfOk};
+ghost use Rattle.std.specs.Prelude.{◌≡◌, map, IfOk};
 ghost use Rattle.std.specs.List.{list_any};
 ghost use Rattle.std.specs.Str.{bytes_eq};
-ghost use Rattle.st_checks.specs.Meanings.{assignable_if, in_classes, in_instances, in_pools, or_else};
-ghost use Rattle.st_checks.specs.Declarations.{ancestors};
+ghost use Rattle.st_checks.specs.Meanings.{assignable_if, in_classes, in_instances, in_pools, in_program, or_else};
 ghost use Rattle.st_checks.specs.Views.{meant, outside};
 
 use crate::classes::{ClassNames, Program};
@@ -48,6 +47,41 @@ fn in_class(table: &Table<'_>, class: &ClassNames<'_>, name: &[u8]) -> Meaning
     }
 }
 
+// Whether one of these classes has an instance variable of this name, or on the class side a class instance variable.
+fn any_has_own(line: &[&ClassNames<'_>], side: MethodSide, name: &[u8]) -> bool
+    ensures { assignable_if result ≡ in_instances side (map (λ c. c.now) line.now) name.now }
+{
+    for class in line {
+        if class.has_own(side, name) {
+            return true;
+        }
+    }
+    false
+}
+
+// What the name stands for in the first of these classes that shares it.
+fn in_classes(table: &Table<'_>, line: &[&ClassNames<'_>], name: &[u8]) -> Meaning
+    ensures { meant result ≡ in_classes table.now (map (λ c. c.now) line.now) name.now }
+{
+    for class in line {
+        match in_class(table, class, name) {
+            Meaning::Undeclared => {}
+            found => return found,
+        }
+    }
+    Meaning::Undeclared
+}
+
+// What the name stands for behind the instance variables.
+fn shared(table: &Table<'_>, line: &[&ClassNames<'_>], name: &[u8]) -> Meaning
+    ensures { meant result ≡ or_else (in_classes table.now (map (λ c. c.now) line.now) name.now) (in_program table.now name.now) }
+{
+    match in_classes(table, line, name) {
+        Meaning::Undeclared => in_program(table, name),
+        found => found,
+    }
+}
+
 impl<'a> View<'a> {
     /// The view that this side of the class has of the program.
     pub(crate) fn new(
@@ -67,42 +101,15 @@ impl<'a> View<'a> {
         })
     }
 
-    // Whether the class or a superclass has an instance variable of this name, or on the class
-    // side a class instance variable.
-    fn has_own(&self, name: &[u8]) -> bool
-        ensures { assignable_if result ≡ in_instances self.now.side (ancestors self.now.units self.now.class) name.now }
-    {
-        for class in &self.line {
-            if class.has_own(self.side, name) {
-                return true;
-            }
-        }
-        false
-    }
-
-    // What the name stands for in the first class of the line that shares it.
-    fn shared(&self, name: &[u8]) -> Meaning
-        ensures { meant result ≡ in_classes self.now.units (ancestors self.now.units self.now.class) name.now }
-    {
-        for class in &self.line {
-            match in_class(self.program.table(), class, name) {
-                Meaning::Undeclared => {}
-                found => return found,
-            }
-        }
-        Meaning::Undeclared
-    }
-
     /// What a name stands for that no scope of the body declares.
     pub(crate) fn meaning(&self, name: &[u8]) -> Meaning
         ensures { meant result ≡ outside self.now name.now }
     {
-        if self.has_own(name) {
-            return Meaning::Assignable;
-        }
-        match self.shared(name) {
-            Meaning::Undeclared => in_program(self.program.table(), name),
-            found => found,
+        let line = self.line.as_slice();
+        if any_has_own(line, self.side, name) {
+            Meaning::Assignable
+        } else {
+            shared(self.program.table(), line, name)
         }
     }
 }

@@ -10,7 +10,7 @@ use Rattle.st_checks.proofs.classes.Program.line.Goals as goal
 pub loop-step-init : goal.loop-step-init
 loop-step-init c =
     let none : map (λ (k : Bor ClassUnit). k.now) c.new-line.result.items ≡ [] = ap (map (λ (k : Bor ClassUnit). k.now)) c.new-line.ensures.items in
-    rw none (ancestors_init c.args.self.now c.args.class.now (length c.units-step-end.result.now) (option_copied c.class_named-above.result) (ap (λ (units : List FileUnit). length units) c.units-step-end.ensures) c.class_named-above.ensures)
+    rw none (ancestors_init c.args.self.now c.args.class.now (length c.units-step-end.result.now) (option_copied c.class_named-above.result) (ap (λ (units : List FileUnit). length units) (c.units-step-end.ensures ∙ c.self.view_is)) c.class_named-above.ensures)
 
 pub returns-in_default : goal.returns-in_default
 returns-in_default c =
