@@ -9,3 +9,5 @@ pub mod Leasts
 pub mod Repeats
 pub mod Variables
 pub mod Outside
+pub mod Walking
+pub mod ClassMaps
