@@ -1,16 +1,18 @@
 -- A walk over a body, a part at a time.
-use Rattle.std.proofs.Common.{◌≡◌, ◌+◌, ◌<◌, ◌≤◌, ℕ, Bool, true, false, cond, ◌&&◌, List, [], ◌∷◌, ◌++◌, length, get_or, take, drop, map, Option, None, Some, refl, ap, sym, ◌∙◌, append_assoc, append-nil}
-use Rattle.std.specs.declared.result.Result.{Result}
-use Rattle.std.specs.declared.result.Result.TheVariants.{Ok, Err}
-use Rattle.std.specs.Result.{OnOk}
+use Rattle.std.proofs.Common.{◌≡◌, ◌+◌, ◌<◌, ◌≤◌, ℕ, Bool, true, false, cond, ◌&&◌, List, [], ◌∷◌, ◌++◌, length, get_or, take, drop, map, Option, None, Some, ◌⊎◌, inl, inr, refl, ap, sym, ◌∙◌, append_assoc, append-nil}
 use Rattle.std.proofs.lemmas.List.{take_more, take_all, map_push}
 use Rattle.st_tree.specs.declared.tree.Name.{Name}
-use Rattle.st_checks.specs.Bodies.{Scope, Mention, Naming, Within, mention, both, nothing_named, only_mentions, all_within, in_own_scope}
+use Rattle.st_tree.specs.declared.tree.Expr.{Expr, out-Expr}
+use Rattle.st_tree.specs.declared.tree.Operand.{Operand, out-Operand}
+use Rattle.st_checks.specs.Bodies.{Scope, Mention, Naming, Within, mention, both, nothing_named, only_mentions, all_within, in_own_scope, names_in_primary, names_in_expr, names_in_message, names_in_operand}
+use Rattle.st_checks.proofs.Naming.{expr_out, operand_out}
 use Rattle.st_checks.specs.Meanings.{Meaning, Undeclared, Fixed, Assignable}
 use Rattle.st_checks.specs.StaticRules.{repeated_from, repeated_in, places, is_undeclared, is_fixed, least}
-use Rattle.st_checks.specs.Views.{Viewpoint, seen, lesser_of, joined, faults_of}
+use Rattle.st_checks.specs.Views.{Viewpoint, meant, seen, lesser_of, joined, faults_of}
 use Rattle.st_checks.specs.Walks.{noted, entered, left}
 use Rattle.st_checks.specs.declared.bodies.BodyFaults.{BodyFaults}
+use Rattle.st_checks.specs.declared.meaning.Meaning.{Meaning as Meant}
+use Rattle.st_checks.specs.declared.meaning.Meaning.TheVariants as meants
 use Rattle.st_checks.specs.declared.bodies.Walk.{Walk}
 use Rattle.st_checks.proofs.Leasts.{least-append, least-cons, lesser_of-assoc, lesser_of-none}
 
@@ -163,11 +165,15 @@ saw-assignable w n assigned e =
     ∙ ap (with_faults w (lesser_of w.faults.undeclared None)) (sym (lesser_of-none w.faults.fixed))
     ∙ sym (noted-mention w (mention assigned w.scopes n) false false (ap is_undeclared (sym e)) (ap (λ (m : Meaning). assigned && is_fixed m) (sym e) ∙ and-false assigned))
 
-pub saw-fixed : (w : Walk) (n : Name) → Fixed ≡ seen w.view (mention false w.scopes n) → w ≡ noted w (only_mentions (mention false w.scopes n ∷ []))
+saw-fixed : (w : Walk) (n : Name) → Fixed ≡ seen w.view (mention false w.scopes n) → w ≡ noted w (only_mentions (mention false w.scopes n ∷ []))
 saw-fixed w n e =
     ap (λ (o : Option ℕ). with_faults w o w.faults.fixed) (sym (lesser_of-none w.faults.undeclared))
     ∙ ap (with_faults w (lesser_of w.faults.undeclared None)) (sym (lesser_of-none w.faults.fixed))
     ∙ sym (noted-mention w (mention false w.scopes n) false false (ap is_undeclared (sym e)) refl)
+
+pub saw-known : (w : Walk) (n : Name) (r : Meant) → (r ≡ meants.Fixed) ⊎ (r ≡ meants.Assignable) → meant r ≡ seen w.view (mention false w.scopes n) → w ≡ noted w (only_mentions (mention false w.scopes n ∷ []))
+saw-known w n r (inl e) is = saw-fixed w n (sym (ap meant e) ∙ is)
+saw-known w n r (inr e) is = saw-assignable w n false (sym (ap meant e) ∙ is)
 
 pub assigned-fixed : (w : Walk) (n : Name) (p : Option ℕ) → Fixed ≡ seen w.view (mention true w.scopes n) → p ≡ lesser_of w.faults.fixed (Some n.at) → with_faults w w.faults.undeclared p ≡ noted w (only_mentions (mention true w.scopes n ∷ []))
 assigned-fixed w n p e is =
@@ -205,7 +211,17 @@ walked-body w0 w1 w2 w3 s ws e f g =
     ∙ ap (λ (scopes : List Scope). left (noted (entered w0 s) (all_within ws scopes))) (entered-scopes w0 s)
     ∙ left-noted w0 s (all_within ws (s ∷ w0.scopes))
 
--- what holds where a call went well
-pub on_ok : {T E P Q : Type 0} (r : Result T E) → (P → Q) → OnOk r P → OnOk r Q
-on_ok (Ok v) f p = f p
-on_ok (Err e) f p = tt
+-- ---- an expression
+
+pub walked-expr : (e : Expr) (w0 w1 w2 w3 : Walk) → w1 ≡ noted w0 (only_mentions (map (mention true w0.scopes) (out-Expr e).targets)) → w2 ≡ noted w1 (names_in_operand (out-Expr e).operand w1.scopes) → w3 ≡ noted w2 (all_within (map names_in_message (out-Expr e).cascade) w2.scopes) → w3 ≡ noted w0 (names_in_expr e w0.scopes)
+walked-expr e w0 w1 w2 w3 a b c =
+    let assigned : Within = λ scopes. only_mentions (map (mention true scopes) (out-Expr e).targets) in
+    let operand : Within = names_in_operand (out-Expr e).operand in
+    let cascade : Within = all_within (map names_in_message (out-Expr e).cascade) in
+    noted-then assigned (λ scopes. both (operand scopes) (cascade scopes)) w0 w1 w3 a (noted-then operand cascade w1 w2 w3 b c)
+    ∙ ap (noted w0) (sym (expr_out e w0.scopes))
+
+pub walked-operand : (o : Operand) (w0 w1 w2 : Walk) → w1 ≡ noted w0 (names_in_primary (out-Operand o).primary w0.scopes) → w2 ≡ noted w1 (all_within (map names_in_message (out-Operand o).chain) w1.scopes) → w2 ≡ noted w0 (names_in_operand o w0.scopes)
+walked-operand o w0 w1 w2 a b =
+    noted-then (names_in_primary (out-Operand o).primary) (all_within (map names_in_message (out-Operand o).chain)) w0 w1 w2 a b
+    ∙ ap (noted w0) (sym (operand_out o w0.scopes))

@@ -89,7 +89,8 @@ impl<'a> Walk<'a> {
             parameters,
             temporaries,
             &mut self.faults.repeated,
-        )
+        )?;
+        Ok(())
     }
 
     fn leave(&mut self)
@@ -107,7 +108,9 @@ impl<'a> Walk<'a> {
                 self.read(name);
                 Ok(())
             }
-            Primary::SelfValue | Primary::SuperValue | Primary::Literal(_) => Ok(()),
+            Primary::SelfValue => Ok(()),
+            Primary::SuperValue => Ok(()),
+            Primary::Literal(_) => Ok(()),
             Primary::Block(block) => self.block(block),
             Primary::Paren(expr) => self.expr(expr.get()),
         }
@@ -118,7 +121,8 @@ impl<'a> Walk<'a> {
         ensures { OnOk result (self.new ≡ noted self.old (names_in_operand operand.now self.old.scopes)) }
     {
         self.primary(&operand.primary)?;
-        self.messages(operand.chain.as_slice())
+        self.messages(operand.chain.as_slice())?;
+        Ok(())
     }
 
     #[cycle(walk)]
@@ -147,7 +151,8 @@ impl<'a> Walk<'a> {
     {
         self.assign_all(expr.targets.as_slice());
         self.operand(&expr.operand)?;
-        self.messages(expr.cascade.as_slice())
+        self.messages(expr.cascade.as_slice())?;
+        Ok(())
     }
 
     #[cycle(walk)]
