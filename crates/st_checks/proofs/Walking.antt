@@ -2,13 +2,16 @@
 use Rattle.std.proofs.Common.{◌≡◌, ◌+◌, ◌<◌, ◌≤◌, ℕ, Bool, true, false, cond, ◌&&◌, List, [], ◌∷◌, ◌++◌, length, get_or, take, drop, map, Option, None, Some, ◌⊎◌, inl, inr, refl, ap, sym, ◌∙◌, append_assoc, append-nil}
 use Rattle.std.proofs.lemmas.List.{take_more, take_all, map_push}
 use Rattle.st_tree.specs.declared.tree.Name.{Name}
+use Rattle.st_tree.specs.declared.tree.Body.{Body}
+use Rattle.st_tree.specs.declared.units.Unit.{Unit as FileUnit}
 use Rattle.st_tree.specs.declared.tree.Expr.{Expr, out-Expr}
 use Rattle.st_tree.specs.declared.tree.Operand.{Operand, out-Operand}
-use Rattle.st_checks.specs.Bodies.{Scope, Mention, Naming, Within, mention, both, nothing_named, only_mentions, all_within, in_own_scope, names_in_primary, names_in_expr, names_in_message, names_in_operand}
+use Rattle.st_checks.specs.Bodies.{Scope, Mention, Naming, Within, mention, both, nothing_named, only_mentions, all_within, in_own_scope, names_in_primary, names_in_body, names_in_expr, names_in_message, names_in_operand}
 use Rattle.st_checks.proofs.Naming.{expr_out, operand_out}
-use Rattle.st_checks.specs.Meanings.{Meaning, Undeclared, Fixed, Assignable}
-use Rattle.st_checks.specs.StaticRules.{repeated_from, repeated_in, places, is_undeclared, is_fixed, least}
-use Rattle.st_checks.specs.Views.{Viewpoint, meant, seen, lesser_of, joined, faults_of}
+use Rattle.st_checks.specs.Faults.{IsBodyFaults}
+use Rattle.st_checks.specs.Meanings.{Meaning, Undeclared, Fixed, Assignable, Written}
+use Rattle.st_checks.specs.StaticRules.{repeated_from, repeated_in, places, is_undeclared, is_fixed, least, repeated_name, undeclared_name, fixed_name}
+use Rattle.st_checks.specs.Views.{Viewpoint, meant, seen, lesser_of, joined, no_faults, faults_of}
 use Rattle.st_checks.specs.Walks.{noted, entered, left}
 use Rattle.st_checks.specs.declared.bodies.BodyFaults.{BodyFaults}
 use Rattle.st_checks.specs.declared.meaning.Meaning.{Meaning as Meant}
@@ -225,3 +228,20 @@ pub walked-operand : (o : Operand) (w0 w1 w2 : Walk) → w1 ≡ noted w0 (names_
 walked-operand o w0 w1 w2 a b =
     noted-then (names_in_primary (out-Operand o).primary) (all_within (map names_in_message (out-Operand o).chain)) w0 w1 w2 a b
     ∙ ap (noted w0) (sym (operand_out o w0.scopes))
+
+-- ---- a whole body
+
+from-start : (v : Viewpoint) (b : Body) (parameters : List Name) (start end : Walk) → start.view ≡ v → start.scopes ≡ [] → start.faults ≡ no_faults → end ≡ noted start (names_in_body b parameters start.scopes) → end.faults ≡ faults_of v (names_in_body b parameters [])
+unfolding noted
+from-start v b parameters start end view scopes none walked = ap (λ (w : Walk). w.faults) walked ∙ rw (view, scopes, none) refl
+
+pub walked-whole : (units : List FileUnit) (w : Written) (start end : Walk) → start.view ≡ record { units = units; class = w.class; side = w.side } → start.scopes ≡ [] → start.faults ≡ no_faults → end ≡ noted start (names_in_body w.body w.parameters start.scopes) → IsBodyFaults units w end.faults
+unfolding faults_of repeated_name undeclared_name fixed_name
+walked-whole units w start end view scopes none walked =
+    let v : Viewpoint = record { units = units; class = w.class; side = w.side } in
+    let found : end.faults ≡ faults_of v (names_in_body w.body w.parameters []) = from-start v w.body w.parameters start end view scopes none walked in
+    record {
+      repeated = ap (λ (f : BodyFaults). f.repeated) found;
+      undeclared = ap (λ (f : BodyFaults). f.undeclared) found;
+      fixed = ap (λ (f : BodyFaults). f.fixed) found;
+    }
