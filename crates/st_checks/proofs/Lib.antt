@@ -5,3 +5,4 @@ pub mod BuiltIns
 pub mod Keys
 pub mod NameLists
 pub mod Ancestors
+pub mod ClassLists
