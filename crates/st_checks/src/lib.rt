@@ -3,10 +3,10 @@
 #![tactic(auto)]
 
 mod bodies;
+mod broken;
 mod built_in;
 mod key;
 mod line;
 mod lists;
 mod rules;
-mod stop;
 mod table;
