@@ -6,3 +6,4 @@ pub mod Keys
 pub mod NameLists
 pub mod Ancestors
 pub mod ClassLists
+pub mod UnitFaults
