@@ -7,3 +7,4 @@ pub mod NameLists
 pub mod Ancestors
 pub mod ClassLists
 pub mod UnitFaults
+pub mod FirstBreaks

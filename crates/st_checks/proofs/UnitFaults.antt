@@ -1,5 +1,5 @@
 -- The first fault of a unit, kind by kind.
-use Rattle.std.proofs.Common.{◌≡◌, ℕ, List, [], ◌∷◌, Option, None, Some, take, refl}
+use Rattle.std.proofs.Common.{◌≡◌, ℕ, List, Option, None, Some, take, refl}
 use Rattle.std.specs.Option.{option_or}
 use Rattle.st_base.specs.declared.builtins.MethodSide.TheVariants as sides
 use Rattle.st_tree.specs.declared.tree.Body.{Body}

@@ -1,17 +1,14 @@
 -- The first fault of a unit, kind by kind, as the code finds it.
-use Rattle.std.specs.Prelude.{◌≡◌, List, [], Option, None, not, ◌||◌, take}
+use Rattle.std.specs.Prelude.{◌≡◌, List, Option, not, ◌||◌}
 use Rattle.std.specs.List.{list_any}
 use Rattle.std.specs.Option.{option_map, option_or}
 use Rattle.std.specs.Str.{bytes_eq}
 use Rattle.st_base.specs.declared.builtins.MethodSide.{MethodSide}
-use Rattle.st_base.specs.declared.builtins.MethodSide.TheVariants as sides
 use Rattle.st_base.specs.declared.faults.Reason.TheVariants as reasons
 use Rattle.st_tree.specs.declared.tree.Body.{Body}
 use Rattle.st_tree.specs.declared.tree.Method.{Method}
 use Rattle.st_tree.specs.declared.units.ClassUnit.{ClassUnit}
 use Rattle.st_tree.specs.declared.units.Unit.{Unit}
-use Rattle.st_tree.specs.declared.units.UnitKind.{UnitKind}
-use Rattle.st_tree.specs.declared.units.UnitKind.TheVariants as kinds
 use Rattle.st_checks.specs.Declarations.{Text, superclasses, declares_class, declares_global, declares_pool, declares_in_pool, defines_method, initializes, initializes_in_pool, is_class, is_name, is_built_in_method, ancestors, way, clash}
 use Rattle.st_checks.specs.Meanings.{Written, initializer, outside_classes}
 use Rattle.st_checks.specs.StaticRules.{Fault, as_whole, in_body, repeats_variable, repeated_name, undeclared_name, fixed_name}

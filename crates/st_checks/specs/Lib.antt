@@ -6,3 +6,4 @@ pub mod Breaks
 pub mod Keys
 pub mod Lists
 pub mod Faults
+pub mod Answers

@@ -1,5 +1,5 @@
 -- What is computed of lists of names and of the classes above a class.
-use Rattle.std.specs.Prelude.{Bool, List, [], ◌∷◌, ◌||◌, Option, Some, None, if◌then◌else◌}
+use Rattle.std.specs.Prelude.{Bool, List, ◌||◌, Option, Some, None, if◌then◌else◌}
 use Rattle.std.specs.List.{list_any}
 use Rattle.st_tree.specs.declared.units.ClassUnit.{ClassUnit}
 use Rattle.st_checks.specs.Declarations.{Text, repeats, share}

@@ -2,6 +2,7 @@
 // first unit that breaks a rule, and the first rule that it breaks. What the rules are stands in specs/.
 #![tactic(auto)]
 
+mod answer;
 mod bodies;
 mod broken;
 mod built_in;
@@ -10,3 +11,5 @@ mod line;
 mod lists;
 mod rules;
 mod table;
+
+pub use answer::{CheckAnswer, Checked, check};

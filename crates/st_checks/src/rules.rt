@@ -307,3 +307,35 @@ fn program_fault<'a>(
     let faults = body_faults(alloc, table, outside_classes(body))?;
     Ok(known_fault(faults, None))
 }
+
+/// The fault of the n-th unit, counted from 0.
+pub(crate) fn unit_fault<'a>(
+    alloc: Global,
+    table: &Table<'a>,
+    n: usize,
+    unit: &'a Unit,
+) -> Result<Option<Broken>, OutOfMemory>
+    ensures { IfOk result (λ b. fault_in b ≡ unit_fault table.now n unit.now.kind) }
+{
+    match &unit.kind {
+        UnitKind::Class(class) => class_fault(alloc, table, n, class),
+        UnitKind::GlobalVariable(name) => Ok(name_fault(table, n, name)),
+        UnitKind::GlobalConstant(name) => Ok(name_fault(table, n, name)),
+        UnitKind::Pool(name) => Ok(name_fault(table, n, name)),
+        UnitKind::PoolVariable { pool, name } => Ok(pool_name_fault(table, n, pool, name)),
+        UnitKind::PoolConstant { pool, name } => Ok(pool_name_fault(table, n, pool, name)),
+        UnitKind::Initializer { target, body } => initializer_fault(alloc, table, n, target, body),
+        UnitKind::PoolInitializer { pool, name, body } => {
+            pool_initializer_fault(alloc, table, n, pool, name, body)
+        }
+        UnitKind::ProgramInitializer(body) => program_fault(alloc, table, body),
+        UnitKind::Method { class, method } => {
+            method_fault(alloc, table, n, class, MethodSide::Instance, method)
+        }
+        UnitKind::ClassMethod { class, method } => {
+            method_fault(alloc, table, n, class, MethodSide::Class, method)
+        }
+        UnitKind::Version(_) => Ok(None),
+        UnitKind::Comment(_) => Ok(None),
+    }
+}

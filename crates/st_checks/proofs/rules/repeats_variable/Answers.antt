@@ -1,4 +1,4 @@
-use Rattle.std.proofs.Common.{◌≡◌, ◌∙◌, sym, ap, subst, IfOk, Some, None, Bool, List, Bor, map}
+use Rattle.std.proofs.Common.{◌≡◌, ◌∙◌, sym, ap, subst, IfOk, Some, None, Bool, Bor, map}
 use Rattle.st_tree.specs.declared.units.ClassUnit.{ClassUnit}
 use Rattle.st_checks.specs.Lists.{distinct, repeats_other}
 use Rattle.st_checks.specs.StaticRules.{repeats_variable}
