@@ -8,3 +8,4 @@ pub mod Ancestors
 pub mod ClassLists
 pub mod UnitFaults
 pub mod FirstBreaks
+pub mod Members
