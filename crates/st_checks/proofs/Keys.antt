@@ -1,10 +1,9 @@
 -- Keys are equal where their texts are, and ask what the definitions ask.
-use Rattle.std.proofs.Common.{◌≡◌, ℕ, Bool, true, false, List, [], ◌∷◌, refl}
+use Rattle.std.proofs.Common.{◌≡◌, List, [], refl}
 use Rattle.st_base.specs.declared.builtins.MethodSide.{MethodSide}
 use Rattle.st_base.specs.declared.builtins.MethodSide.TheVariants as sides
 use Rattle.std.specs.List.{list_any, find}
 use Rattle.st_checks.proofs.Places.{list_any-same, find-same}
-use Rattle.st_tree.specs.declared.units.UnitKind.{UnitKind}
 use Rattle.st_tree.specs.declared.units.UnitKind.TheVariants as kinds
 use Rattle.st_tree.specs.declared.units.Unit.{Unit}
 use Rattle.st_checks.specs.Declarations.{Text, declares_class, declares_global, declares_pool, declares_in_pool, defines_method, initializes, initializes_in_pool}
@@ -13,7 +12,7 @@ use Rattle.st_checks.specs.contracts.key.SortPartialEq.TheImpl as sort_eq
 use Rattle.st_checks.specs.declared.key.Sort.{Sort}
 use Rattle.st_checks.specs.declared.key.Sort.TheVariants as sorts
 use Rattle.st_checks.specs.declared.key.Key.{Key}
-use Rattle.st_checks.specs.Keys.{TextKey, text_key, key, same_sort, same_key, method_sort, key_of, has_key}
+use Rattle.st_checks.specs.Keys.{text_key, key, same_sort, same_key, method_sort, has_key}
 
 pub eq-sorts : (a b : Sort) → sort_eq.eq-value.it a b ≡ same_sort a b
 eq-sorts sorts.Class b = elim b as (λ b. sort_eq.eq-value.it sorts.Class b ≡ same_sort sorts.Class b) [ sorts.Class ↦ refl | _ ↦ refl ]

@@ -5,6 +5,10 @@ pub mod BuiltIns
 pub mod Keys
 pub mod NameLists
 pub mod Ancestors
+pub mod ClassLists
+pub mod UnitFaults
+pub mod FirstBreaks
+pub mod Members
 pub mod Leasts
 pub mod Repeats
 pub mod Variables

@@ -1,5 +1,5 @@
 -- Lists of names, a name at a time.
-use Rattle.std.proofs.Common.{◌≡◌, ◌+◌, ◌<◌, ◌≤◌, ℕ, zero, suc, Bool, true, false, ◌||◌, not, cond, List, [], ◌∷◌, ◌++◌, length, get_or, take, drop, map, Option, Some, None, eqb, if◌then◌else◌, refl, sym, ap, ◌∙◌, arith}
+use Rattle.std.proofs.Common.{◌≡◌, ◌+◌, ◌<◌, ℕ, Bool, true, false, ◌||◌, not, cond, List, [], ◌∷◌, ◌++◌, length, get_or, take, drop, map, Option, Some, None, eqb, is_some, if◌then◌else◌, refl, sym, ap, ◌∙◌, arith}
 use Rattle.std.specs.Str.{bytes_eq}
 use Rattle.std.specs.List.{list_any}
 use Rattle.std.proofs.lemmas.List.{take_more, take-append-drop, map_push}
@@ -103,3 +103,27 @@ distinct_more xs set new i x d low is so_far there gained =
     let apart : list_any (bytes_eq x) set ≡ false = not-true (list_any (bytes_eq x) set) there in
     let same : set ≡ take i xs = so_far.0 in
     (gained ∙ rw (apart, take_more xs i d low, ← is, ← same) refl, repeats_more xs i d low ∙ rw (so_far.1, ← same, ← is, apart) refl)
+
+distinct-cases : (b : Bool) (names set : List Text) → Some set ≡ cond b None (Some names) → (b ≡ false) × (set ≡ names)
+distinct-cases true names set h = absurd (cc)
+distinct-cases false names set h = (refl, cc)
+
+distinct-absent : (b : Bool) (names : List Text) → None ≡ cond b None (Some names) → b ≡ true
+distinct-absent true names h = refl
+distinct-absent false names h = absurd (cc)
+
+-- what is known of a list by its set
+pub distinct-some : (names set : List Text) → Some set ≡ distinct names → (repeats names ≡ false) × (set ≡ names)
+distinct-some names set h = distinct-cases (repeats names) names set h
+
+pub distinct-none : (names : List Text) → None ≡ distinct names → repeats names ≡ true
+distinct-none names h = distinct-absent (repeats names) names h
+
+is-none : (b r : Bool) (names : List Text) → is_some (cond r None (Some names)) ≡ not b → b ≡ r
+is-none true true names h = refl
+is-none true false names h = absurd (cc)
+is-none false true names h = absurd (cc)
+is-none false false names h = refl
+
+pub distinct-is_none : (names : List Text) (o : Option (List Text)) (b : Bool) → is_some o ≡ not b → o ≡ distinct names → b ≡ repeats names
+distinct-is_none names o b none is = is-none b (repeats names) names (ap is_some (sym is) ∙ none)

@@ -1,5 +1,5 @@
 -- Keys: what one unit declares or defines, by which the table of a file finds it.
-use Rattle.std.specs.Prelude.{Bool, true, false, ◌&&◌, List, [], ◌∷◌, Option, Some, None, ℕ}
+use Rattle.std.specs.Prelude.{Bool, true, false, ◌&&◌, List, [], Option, Some, None, ℕ}
 use Rattle.std.specs.Prelude.{◌≡◌}
 use Rattle.std.specs.Str.{bytes_eq}
 use Rattle.std.specs.HashMap.{HashMap, get}

@@ -6,6 +6,7 @@ pub mod Breaks
 pub mod Keys
 pub mod Lists
 pub mod Faults
+pub mod Answers
 pub mod NameSets
 pub mod Views
 pub mod Walks

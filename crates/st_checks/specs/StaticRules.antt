@@ -117,7 +117,7 @@ undeclared_in units w mentions = places (λ m. is_undeclared (meaning units w m)
 abbrev pub fixed_in : List Unit → Written → List Mention → List ℕ
 fixed_in units w mentions = places (λ m. m.assigned && is_fixed (meaning units w m)) mentions
 
-abbrev lesser : ℕ → Option ℕ → ℕ
+abbrev pub lesser : ℕ → Option ℕ → ℕ
 lesser n None = n
 lesser n (Some m) = min n m
 
@@ -149,6 +149,11 @@ abbrev pub in_body : Reason → Option ℕ → Option Fault
 in_body reason None = None
 in_body reason (Some byte) = Some (record { reason = reason; body_byte = Some byte })
 
+-- a variable that is declared twice: by a class, or in a body
+abbrev pub variable_fault : (units : List Unit) → UnitKind → Option Fault
+variable_fault units kind =
+    option_or (as_whole reasons.DuplicateVariable (duplicates_variable units kind)) (in_body reasons.DuplicateVariable (option_and_then repeated_name (written units kind)))
+
 -- each rule in turn
 abbrev pub faults : (before units : List Unit) → UnitKind → List (Option Fault)
 faults before units kind =
@@ -156,8 +161,7 @@ faults before units kind =
     ∷ as_whole reasons.DuplicateName (duplicates_name before kind)
     ∷ as_whole reasons.UnknownSuperclass (lacks_superclass before kind)
     ∷ as_whole reasons.IndexedClash (clashes units kind)
-    ∷ as_whole reasons.DuplicateVariable (duplicates_variable units kind)
-    ∷ in_body reasons.DuplicateVariable (option_and_then repeated_name (written units kind))
+    ∷ variable_fault units kind
     ∷ as_whole reasons.UnknownPool (lacks_pool units kind)
     ∷ as_whole reasons.UnknownClass (lacks_class units kind)
     ∷ as_whole reasons.ReplacesBuiltin (replaces_built_in kind)

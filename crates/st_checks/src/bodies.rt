@@ -6,9 +6,9 @@ ghost use Rattle.st_checks.specs.Meanings.{in_scopes, or_else};
 ghost use Rattle.st_checks.specs.Views.{meant, outside};
 ghost use Rattle.st_checks.specs.Walks.{entered, left, noted};
 
-use crate::classes::Program;
 use crate::meaning::Meaning;
 use crate::scopes::{Scopes, note_place};
+use crate::table::Table;
 use crate::view::View;
 use st_base::{MethodSide, OutOfMemory};
 use st_tree::tree::{Block, Body, Expr, Message, Name, Operand, Primary, Statement};
@@ -197,12 +197,12 @@ impl<'a> Walk<'a> {
 /// The faults of a body.
 pub(crate) fn body_faults<'a>(
     alloc: Global,
-    program: &'a Program<'a>,
+    table: &Table<'a>,
     seen: Seen<'a>,
 ) -> Result<BodyFaults, OutOfMemory>
-    ensures { IfOk result (IsBodyFaults program.now (written_of seen.entry)) }
+    ensures { IfOk result (IsBodyFaults table.now (written_of seen.entry)) }
 {
-    let view = View::new(alloc, program, seen.class, seen.side)?;
+    let view = View::new(alloc, table, seen.class, seen.side)?;
     let mut walk = Walk {
         alloc,
         view,

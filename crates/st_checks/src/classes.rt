@@ -1,14 +1,12 @@
 // The classes of a file, each with its names in sets.
-ghost use Rattle.std.specs.Prelude.{◌≡◌, map, IfOk, OnOk};
-ghost use Rattle.std.specs.List.{list_any};
+ghost use Rattle.std.specs.Prelude.{◌≡◌, IfOk, OnOk};
+ghost use Rattle.std.specs.List.{find, list_any};
 ghost use Rattle.std.specs.Option.{option_copied};
 ghost use Rattle.std.specs.Str.{bytes_eq};
-ghost use Rattle.st_checks.specs.Declarations.{ancestors, class_named};
+ghost use Rattle.st_checks.specs.Declarations.{class_of_unit, declares_class};
 ghost use Rattle.st_checks.specs.Meanings.{own_names};
 ghost use Rattle.st_checks.specs.NameSets.{GainsClass, IsSetOf};
 
-use crate::built_in::is_built_in;
-use crate::table::Table;
 use indexmap::{IndexMap, IndexSet};
 use st_base::{MethodSide, OutOfMemory, Text};
 use st_tree::units::{ClassUnit, Unit, UnitKind};
@@ -85,21 +83,22 @@ impl<'a> ClassNames<'a> {
         self.class.pools.as_slice()
     }
 
-    fn superclass(&self) -> &'a [u8]
+    /// The name of its superclass.
+    pub(crate) fn superclass(&self) -> &'a [u8]
         ensures { result.now ≡ self.now.superclass }
     {
         self.class.superclass.as_bytes()
     }
 }
 
-/// A file's table with the classes that it declares. Contracts see its units.
+/// The classes that the units of a file declare, by name: the first of each. Contracts see the units.
 #[derive(Drop)]
-pub(crate) struct Program<'a> {
-    table: &'a Table<'a>,
-    classes: IndexMap<&'a [u8], ClassNames<'a>>,
+pub(crate) struct Classes<'a> {
+    units: &'a [Unit],
+    by_name: IndexMap<&'a [u8], ClassNames<'a>>,
 }
 
-impl<'a> Model for Program<'a> {
+impl<'a> Model for Classes<'a> {
     ghost use Rattle.std.specs.Prelude.{List};
     ghost use Rattle.std.specs.Coded.{coded_list};
     ghost use Rattle.st_tree.specs.contracts.units.Unit as unit;
@@ -110,9 +109,9 @@ impl<'a> Model for Program<'a> {
 
     ghost Value = { List Unit };
 
-    ghost view = { λ p. p.table.now };
+    ghost view = { λ c. c.units.now };
 
-    ghost invariant = { λ p. HasClasses p.table.now p.classes };
+    ghost invariant = { λ c. HasClasses c.units.now c.by_name };
 }
 
 // Notes the unit's class, unless an earlier unit has its name.
@@ -135,52 +134,22 @@ fn note_class<'a>(
     Ok(())
 }
 
-impl<'a> Program<'a> {
-    /// The file's table, with its classes.
-    pub(crate) fn new(alloc: Global, table: &'a Table<'a>) -> Result<Program<'a>, OutOfMemory>
-        ensures { IfOk result (λ p. p ≡ table.now) }
+impl<'a> Classes<'a> {
+    /// The classes of these units.
+    pub(crate) fn new(alloc: Global, units: &'a [Unit]) -> Result<Classes<'a>, OutOfMemory>
+        ensures { IfOk result (λ c. c ≡ units.now) }
     {
-        let mut classes = IndexMap::new(alloc);
-        for unit in table.units() {
-            note_class(alloc, &mut classes, unit)?;
+        let mut by_name = IndexMap::new(alloc);
+        for unit in units {
+            note_class(alloc, &mut by_name, unit)?;
         }
-        Ok(Program { table, classes })
+        Ok(Classes { units, by_name })
     }
 
-    /// The table of the file.
-    pub(crate) fn table(&self) -> &'a Table<'a>
-        ensures { result.now ≡ self.now }
+    /// The class of this name.
+    pub(crate) fn get(&self, name: &[u8]) -> Option<&ClassNames<'a>>
+        ensures { option_copied result ≡ class_of_unit (find (declares_class name.now) self.now) }
     {
-        self.table
-    }
-
-    // The first class of this name, where the name isn't built in.
-    fn class_named(&self, name: &[u8]) -> Option<&ClassNames<'a>>
-        ensures { option_copied result ≡ class_named self.now name.now }
-    {
-        if is_built_in(name) {
-            return None;
-        }
-        self.classes.get(name)
-    }
-
-    /// The class of this name and its superclasses, upwards, as far as the file declares them.
-    pub(crate) fn line<'b>(
-        &'b self,
-        alloc: Global,
-        class: &'b [u8],
-    ) -> Result<Vec<&'b ClassNames<'a>>, OutOfMemory>
-        ensures { IfOk result (λ v. map (λ c. c.now) v.items ≡ ancestors self.now class.now) }
-    {
-        let mut line = Vec::new(alloc);
-        let mut above = self.class_named(class);
-        for _step in 0..self.table.units().len() {
-            let Some(class) = above else {
-                return Ok(line);
-            };
-            line.push(class)?;
-            above = self.class_named(class.superclass());
-        }
-        Ok(line)
+        self.by_name.get(name)
     }
 }

@@ -2,7 +2,9 @@
 // first unit that breaks a rule, and the first rule that it breaks. What the rules are stands in specs/.
 #![tactic(auto)]
 
+mod answer;
 mod bodies;
+mod broken;
 mod built_in;
 mod classes;
 mod key;
@@ -11,6 +13,7 @@ mod lists;
 mod meaning;
 mod rules;
 mod scopes;
-mod stop;
 mod table;
 mod view;
+
+pub use answer::{CheckAnswer, Checked, check};

@@ -2,7 +2,7 @@
 ghost use Rattle.std.specs.Prelude.{◌≡◌, [], IfOk, OnOk, ◌++◌, ◌∷◌, not, if◌then◌else◌};
 ghost use Rattle.std.specs.List.{list_any};
 ghost use Rattle.std.specs.Str.{bytes_eq};
-ghost use Rattle.st_checks.specs.Declarations.{share};
+ghost use Rattle.st_checks.specs.Declarations.{repeats, share};
 ghost use Rattle.st_checks.specs.Lists.{distinct};
 
 use indexmap::IndexSet;
@@ -77,4 +77,12 @@ pub(crate) fn share(names: &[Text], set: &NameSet<'_>) -> bool
         }
     }
     false
+}
+
+/// Whether a name stands twice among them.
+pub(crate) fn repeats(alloc: Global, names: &[Text]) -> Result<bool, OutOfMemory>
+    ensures { IfOk result (λ b. b ≡ repeats names.now) }
+{
+    let set = distinct(alloc, names)?;
+    Ok(set.is_none())
 }

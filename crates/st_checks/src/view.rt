@@ -2,21 +2,22 @@
 ghost use Rattle.std.specs.Prelude.{◌≡◌, map, IfOk};
 ghost use Rattle.std.specs.List.{list_any};
 ghost use Rattle.std.specs.Str.{bytes_eq};
+ghost use Rattle.st_checks.specs.Declarations.{ancestors};
 ghost use Rattle.st_checks.specs.Meanings.{assignable_if, in_classes, in_instances, in_pools, in_program, or_else};
 ghost use Rattle.st_checks.specs.Views.{meant, outside};
 
-use crate::classes::{ClassNames, Program};
+use crate::classes::ClassNames;
 use crate::meaning::{Meaning, in_pools, in_program};
 use crate::table::Table;
 use st_base::{MethodSide, OutOfMemory};
 use std::alloc::Global;
 use std::marker::Model;
 
-/// A class of a program, seen from one side, with its superclasses. Contracts see the program's
-/// units, the class's name and the side.
+/// A class of a file, seen from one side, with its superclasses. Contracts see the file's units, the class's name and
+/// the side.
 #[derive(Drop)]
 pub(crate) struct View<'a> {
-    program: &'a Program<'a>,
+    table: &'a Table<'a>,
     class: &'a [u8],
     side: MethodSide,
     line: Vec<&'a ClassNames<'a>>,
@@ -31,9 +32,29 @@ impl<'a> Model for View<'a> {
 
     ghost coded = { viewpoint_code };
 
-    ghost view = { λ v. record { units = v.program.now; class = v.class.now; side = v.side } };
+    ghost view = { λ v. record { units = v.table.now; class = v.class.now; side = v.side } };
 
-    ghost invariant = { λ v. map (λ c. c.now) v.line.items ≡ ancestors v.program.now v.class.now };
+    ghost invariant = { λ v. map (λ c. c.now) v.line.items ≡ ancestors v.table.now v.class.now };
+}
+
+// The class of this name and its superclasses, upwards, as far as the file declares them.
+fn line<'t, 'a>(
+    alloc: Global,
+    table: &'t Table<'a>,
+    name: &[u8],
+) -> Result<Vec<&'t ClassNames<'a>>, OutOfMemory>
+    ensures { IfOk result (λ line. map (λ c. c.now) line.items ≡ ancestors table.now name.now) }
+{
+    let mut line = Vec::new(alloc);
+    let mut above = table.class_names(name);
+    for _step in 0..table.units().len() {
+        let Some(class) = above else {
+            return Ok(line);
+        };
+        line.push(class)?;
+        above = table.class_names(class.superclass());
+    }
+    Ok(line)
 }
 
 // What the name stands for as that of a variable that the class shares with its subclasses.
@@ -83,18 +104,18 @@ fn shared(table: &Table<'_>, line: &[&ClassNames<'_>], name: &[u8]) -> Meaning
 }
 
 impl<'a> View<'a> {
-    /// The view that this side of the class has of the program.
+    /// The view that this side of the class has of the file.
     pub(crate) fn new(
         alloc: Global,
-        program: &'a Program<'a>,
+        table: &'a Table<'a>,
         class: &'a [u8],
         side: MethodSide,
     ) -> Result<View<'a>, OutOfMemory>
-        ensures { IfOk result (λ v. v ≡ record { units = program.now; class = class.now; side = side }) }
+        ensures { IfOk result (λ v. v ≡ record { units = table.now; class = class.now; side = side }) }
     {
-        let line = program.line(alloc, class)?;
+        let line = line(alloc, table, class)?;
         Ok(View {
-            program,
+            table,
             class,
             side,
             line,
@@ -109,7 +130,7 @@ impl<'a> View<'a> {
         if any_has_own(line, self.side, name) {
             Meaning::Assignable
         } else {
-            shared(self.program.table(), line, name)
+            shared(self.table, line, name)
         }
     }
 }

@@ -8,4 +8,4 @@ use Rattle.st_checks.proofs.bodies.body_faults.Goals as goal
 pub returns : goal.returns
 returns c =
     let start : Walk = record { alloc = c.args.alloc; view = c.in_ok-view.view; scopes = c.new-2.result; faults = no_faults } in
-    walked-whole c.args.program.now (written_of c.args.seen) start c.body.new.self c.in_ok-view.ensures c.new-2.ensures refl c.in_ok-body.ensures
+    walked-whole c.args.table.now (written_of c.args.seen) start c.body.new.self c.in_ok-view.ensures c.new-2.ensures refl c.in_ok-body.ensures

@@ -1,4 +1,4 @@
-use Rattle.std.proofs.Common.{◌≡◌, ◌∙◌, sym, ap}
+use Rattle.std.proofs.Common.{◌∙◌, sym, ap}
 use Rattle.std.specs.Str.{bytes_eq}
 use Rattle.st_base.specs.BuiltIns.{class_row}
 use Rattle.st_checks.specs.Declarations.{built_in_number, first_place}

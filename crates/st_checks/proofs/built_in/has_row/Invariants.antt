@@ -1,8 +1,7 @@
-use Rattle.std.proofs.Common.{◌≡◌, None, false, take}
+use Rattle.std.proofs.Common.{◌≡◌, false, take}
 use Rattle.std.specs.List.{list_any}
-use Rattle.std.specs.Str.{bytes_eq}
-use Rattle.st_base.specs.BuiltIns.{class_row, message_row}
-use Rattle.st_checks.specs.Declarations.{first_place, is_message}
+use Rattle.st_base.specs.BuiltIns.{message_row}
+use Rattle.st_checks.specs.Declarations.{is_message}
 use Rattle.st_checks.proofs.built_in.has_row.Given as goal
 
 abbrev pub invariant-loop-message : goal.invariant-loop-message

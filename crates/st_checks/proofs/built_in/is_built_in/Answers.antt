@@ -1,4 +1,4 @@
-use Rattle.std.proofs.Common.{◌≡◌, ◌∙◌, ap, is_some}
+use Rattle.std.proofs.Common.{◌∙◌, ap, is_some}
 use Rattle.std.specs.Str.{bytes_eq}
 use Rattle.st_base.specs.BuiltIns.{classes}
 use Rattle.st_checks.specs.Declarations.{built_in_number, is_built_in}

@@ -1,6 +1,6 @@
-use Rattle.std.proofs.Common.{◌≡◌, ◌∙◌, sym, ap, ℕ, Option, List}
+use Rattle.std.proofs.Common.{◌∙◌, sym, ap, ℕ, Option}
 use Rattle.std.specs.List.{list_any}
-use Rattle.st_base.specs.BuiltIns.{message_row, MessageRow}
+use Rattle.st_base.specs.BuiltIns.{message_row}
 use Rattle.st_checks.specs.Declarations.{is_built_in_method, has_message, is_message}
 use Rattle.st_checks.proofs.Places.{list_any-map}
 use Rattle.st_checks.proofs.built_in.is_built_in_method.Goals as goal

@@ -1,4 +1,3 @@
-use Rattle.std.proofs.Common.{◌≡◌, ◌∙◌, refl}
 use Rattle.st_checks.specs.Declarations.{superclasses}
 use Rattle.st_checks.proofs.built_in.may_have_subclasses.Goals as goal
 

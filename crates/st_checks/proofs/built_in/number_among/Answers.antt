@@ -1,4 +1,4 @@
-use Rattle.std.proofs.Common.{◌≡◌, arith, sym, ◌∙◌, refl, ap}
+use Rattle.std.proofs.Common.{arith, sym, ◌∙◌, refl, ap}
 use Rattle.std.specs.Str.{bytes_eq}
 use Rattle.st_checks.proofs.BuiltIns.{named}
 use Rattle.st_checks.proofs.Places.{first_place_at, first_place_none}

@@ -1,9 +1,9 @@
-use Rattle.std.proofs.Common.{◌≡◌, ◌∙◌, ◌-◌, ◌+◌, ◌++◌, ◌∷◌, [], ℕ, Bor, List, Option, Some, None, map, length, ap, sym, arith}
+use Rattle.std.proofs.Common.{◌≡◌, ◌∙◌, ◌-◌, ◌++◌, [], Bor, List, Option, map, length, ap, sym, arith}
 use Rattle.std.specs.Option.{option_copied}
 use Rattle.std.proofs.lemmas.List.{map_push}
 use Rattle.st_tree.specs.declared.units.ClassUnit.{ClassUnit}
 use Rattle.st_tree.specs.declared.units.Unit.{Unit as FileUnit}
-use Rattle.st_checks.specs.Declarations.{Text, class_named, from_class, ancestors}
+use Rattle.st_checks.specs.Declarations.{class_named, from_class, ancestors}
 use Rattle.st_checks.proofs.Ancestors.{ancestors_init, ancestors_none, ancestors_all, ancestors_more}
 use Rattle.st_checks.proofs.line.ancestors.Goals as goal
 

@@ -1,4 +1,4 @@
-use Rattle.std.proofs.Common.{◌≡◌, ◌-◌, ◌++◌, map, length}
+use Rattle.std.proofs.Common.{◌≡◌, ◌-◌, ◌++◌, map}
 use Rattle.std.specs.Option.{option_copied}
 use Rattle.st_checks.specs.Declarations.{ancestors, from_class}
 use Rattle.st_checks.proofs.line.ancestors.Given as goal

@@ -1,4 +1,4 @@
-use Rattle.std.proofs.Common.{◌≡◌, take, drop, map}
+use Rattle.std.proofs.Common.{◌≡◌, drop, map}
 use Rattle.st_checks.specs.Declarations.{way}
 use Rattle.st_checks.proofs.line.way.Given as goal
 

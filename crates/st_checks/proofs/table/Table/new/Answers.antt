@@ -1,4 +1,4 @@
-use Rattle.std.proofs.Common.{◌≡◌, sym, ◌∙◌, ap, Option, ℕ, arith, get_or, refl}
+use Rattle.std.proofs.Common.{◌≡◌, ◌∙◌, ap, Option, ℕ, arith, get_or, refl}
 use Rattle.std.specs.Map.{lookup}
 use Rattle.st_tree.specs.declared.units.Unit.{Unit as FileUnit}
 use Rattle.st_checks.specs.contracts.key.KeyPartialEq.TheImpl.{eq-value}
