@@ -37,14 +37,14 @@ pub set-more : {S : Type 0} (s t : HashSet Bytes S) (names : List Text) (i : ℕ
 set-more s t names i name k low is same so_far gained =
     let whole : take i names ++ name ∷ [] ≡ take (i + 1) names = rw (take_more names i name low, ← is) refl in
     record {
-  each = λ (n : Text).
-      ap (list_any (λ (x : Bytes). bytes_eq n x.now)) gained
-      ∙ insert-any n s.keys k
-      ∙ ap (λ (b : Bool). b || bytes_eq n k.now) (so_far.each n)
-      ∙ ap (λ (u : Text). list_any (bytes_eq n) (take i names) || bytes_eq n u) same
-      ∙ sym (any-push n (take i names) name)
-      ∙ ap (list_any (bytes_eq n)) whole;
-}
+      each = λ (n : Text).
+          ap (list_any (λ (x : Bytes). bytes_eq n x.now)) gained
+          ∙ insert-any n s.keys k
+          ∙ ap (λ (b : Bool). b || bytes_eq n k.now) (so_far.each n)
+          ∙ ap (λ (u : Text). list_any (bytes_eq n) (take i names) || bytes_eq n u) same
+          ∙ sym (any-push n (take i names) name)
+          ∙ ap (list_any (bytes_eq n)) whole;
+    }
 
 -- ---- classes
 
@@ -88,9 +88,9 @@ pub classes-more : {S : Type 0} (m0 m1 : HashMap Bytes ClassUnit S) (units : Lis
 classes-more m0 m1 units i u low is so_far gained =
     let whole : take i units ++ u ∷ [] ≡ take (i + 1) units = rw (take_more units i u low, ← is) refl in
     record {
-  each = λ (q : Bytes).
-      gained.each q
-      ∙ ap (λ (o : Option ClassUnit). option_or o (class_if_named q.now u)) (so_far.each q)
-      ∙ sym (push-class q.now (take i units) u)
-      ∙ ap (λ (us : List FileUnit). class_of_unit (find (declares_class q.now) us)) whole;
-}
+      each = λ (q : Bytes).
+          gained.each q
+          ∙ ap (λ (o : Option ClassUnit). option_or o (class_if_named q.now u)) (so_far.each q)
+          ∙ sym (push-class q.now (take i units) u)
+          ∙ ap (λ (us : List FileUnit). class_of_unit (find (declares_class q.now) us)) whole;
+    }
