@@ -4,6 +4,8 @@
 
 mod answer;
 mod bodies;
+#[cfg(test)]
+mod body_tests;
 mod broken;
 mod built_in;
 mod classes;
