@@ -1,0 +1,12 @@
+pub mod Declarations
+pub mod Bodies
+pub mod Meanings
+pub mod StaticRules
+pub mod Breaks
+pub mod Keys
+pub mod Lists
+pub mod Faults
+pub mod Answers
+pub mod NameSets
+pub mod Views
+pub mod Walks
