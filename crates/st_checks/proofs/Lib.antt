@@ -9,3 +9,4 @@ pub mod ClassLists
 pub mod UnitFaults
 pub mod FirstBreaks
 pub mod Members
+pub mod FirstLaw

@@ -7,6 +7,7 @@ mod bodies;
 mod broken;
 mod built_in;
 mod key;
+pub mod law;
 mod line;
 mod lists;
 mod rules;
