@@ -15,3 +15,4 @@ pub mod Variables
 pub mod Outside
 pub mod Walking
 pub mod ClassMaps
+pub mod FirstLaw
