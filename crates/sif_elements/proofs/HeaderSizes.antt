@@ -20,7 +20,7 @@ use Rattle.st_tree.specs.declared.headers.Row.TheVariants as row
 use Rattle.st_tree.specs.Symbols.{text_of}
 use Rattle.st_tree.specs.Headers.{onto_word, words_behind, words_of, string_in, string_at, header_of, row_of, comments_in, comments_of, slots_of, walk, is_identifier_kind, Walk, Filled, Stuck, Short, Element, Says, Faulty, judged, by_row, says, begins_version}
 use Rattle.st_tree.specs.Units.{element, first_element}
-use Rattle.sif_elements.specs.Small.{text_size, kind_size, annotation_size, moves_of}
+use Rattle.st_tree.specs.Small.{text_size, kind_size, annotation_size, moves_of}
 use Rattle.sif_elements.proofs.Paid.{string_value-length}
 
 -- the names of a target

@@ -18,7 +18,7 @@ use Rattle.st_tree.specs.Symbols.{Sym, Id, Key, Op, Minus, Bar, TwoBars, ThreeBa
 use Rattle.st_tree.specs.Trees.{array, constant}
 use Rattle.st_tree.specs.Grammar as g
 use Rattle.st_parser.proofs.Words.{role_is, word_item_is, string_value_is}
-use Rattle.sif_elements.specs.Small.{literal_size, moves, parts}
+use Rattle.st_tree.specs.Small.{literal_size, moves, parts}
 use Rattle.sif_elements.proofs.Weighing.{primary_in, constant_weighs, self_weighs, array_size, symbol_size, str_size, integer_size, character_size, nil_size, true_size, false_size}
 use Rattle.sif_elements.proofs.Weighed.{paid, Pays}
 

@@ -16,7 +16,7 @@ use Rattle.st_tree.specs.Numbers.{unit, annotated}
 use Rattle.sif_elements.specs.declared.progress.Progress.{Progress}
 use Rattle.sif_elements.specs.declared.progress.Progress.TheVariants.{Start, Between, Awaiting}
 use Rattle.sif_elements.specs.Reading.{Takes, version, whole, header, annotation, text_of_header}
-use Rattle.sif_elements.specs.Small.{IsSmall, unit_size, kind_size, annotation_size, moves_of}
+use Rattle.st_tree.specs.Small.{IsSmall, unit_size, kind_size, annotation_size, moves_of}
 use Rattle.sif_elements.proofs.Counts.{units_of, sum_by-annotated}
 use Rattle.sif_elements.proofs.HeaderSizes.{target_size, element-small, first_element-small}
 use Rattle.sif_elements.proofs.Readable.{IsReadableSoFar, readable_more}

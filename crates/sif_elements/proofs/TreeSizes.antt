@@ -10,7 +10,7 @@ use Rattle.st_tree.specs.Trees.{name, body}
 use Rattle.st_tree.specs.Grammar as g
 use Rattle.st_tree.specs.Grammar.{Production, Tree, MethodTree, BodyTree, Derives, is_body, is_method}
 use Rattle.st_tree.specs.Units.{TextIs}
-use Rattle.sif_elements.specs.Small.{Weights, names_weight, body_weight, method_size, parts, moves}
+use Rattle.st_tree.specs.Small.{Weights, names_weight, body_weight, method_size, parts, moves}
 use Rattle.sif_elements.proofs.Weighing.{body_weighs}
 use Rattle.sif_elements.proofs.Weighed.{paid, Pays, temps, statements}
 use Rattle.sif_elements.proofs.Paid.{one_each, with_bytes, moves_paid, parts_paid, one_each_token, with_bytes_each}

@@ -11,7 +11,7 @@ use Rattle.st_tree.specs.declared.tree.Operand.{Operand}
 use Rattle.st_tree.specs.Symbols.{Sym, Id, Key, Num, Lit, ArrayOpen, ParenClose, BlockOpen, BlockClose, Caret, Period, IsOp, role, IsValue}
 use Rattle.st_tree.specs.Trees.{name, integer, negative, array, message, operand, expr, stated}
 use Rattle.st_tree.specs.Grammar as g
-use Rattle.sif_elements.specs.Small.{Weights, names_weight}
+use Rattle.st_tree.specs.Small.{Weights, names_weight}
 use Rattle.sif_elements.proofs.Weighing.{primary_in, statement_in, message_in, operand_in, message_weighs, operand_weighs, expr_weighs, stated_weighs, variable_weighs, super_weighs, constant_weighs, paren_weighs, block_weighs}
 
 -- what symbols pay

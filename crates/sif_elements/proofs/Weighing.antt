@@ -18,7 +18,7 @@ use Rattle.st_tree.specs.declared.tree.Expr.{Expr}
 use Rattle.st_tree.specs.declared.tree.Message.{Message}
 use Rattle.st_tree.specs.declared.tree.Operand.{Operand}
 use Rattle.st_tree.specs.Trees.{variable, array, constant, message, operand, expr, body, paren, block, stated}
-use Rattle.sif_elements.specs.Small.{Weights, text_size, literal_layer, literal_size, primary_weight, statement_weight, names_weight, block_weight, layer_weight, expr_weight, message_weight, operand_weight, body_weight}
+use Rattle.st_tree.specs.Small.{Weights, text_size, literal_layer, literal_size, primary_weight, statement_weight, names_weight, block_weight, layer_weight, expr_weight, message_weight, operand_weight, body_weight}
 
 unfoldable pub primary_in : Weights → Primary → ℕ
 primary_in w = fold-Primary ℕ ℕ ℕ ℕ ℕ ℕ ℕ (primary_weight w) (statement_weight w) (block_weight w) (layer_weight w) (expr_weight w) (message_weight w) operand_weight

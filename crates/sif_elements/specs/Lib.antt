@@ -4,5 +4,4 @@ pub mod Steps
 pub mod Told
 pub mod Answered
 pub mod Turns
-pub mod Small
 pub mod Words

@@ -5,7 +5,7 @@ ghost use Rattle.st_tree.specs.Numbers.{elements_in};
 ghost use Rattle.sif_elements.specs.Steps.{reading, step_of, at_end};
 ghost use Rattle.sif_elements.specs.Turns.{turn_of, turn_behind, made, Ends};
 ghost use Rattle.sif_elements.specs.Answered.{said, IfRead, Took, LeavesOpen};
-ghost use Rattle.sif_elements.specs.Small.{IsSmall};
+ghost use Rattle.st_tree.specs.Small.{IsSmall};
 
 use crate::progress::{Progress, Stepped, step};
 use sif_chunks::{ChunkReader, Next};

@@ -5,7 +5,7 @@ use Rattle.sif_chunks.specs.declared.next.Next.TheVariants as next
 use Rattle.st_tree.specs.Numbers.{elements_in}
 use Rattle.st_tree.specs.declared.units.Unit.{Unit}
 use Rattle.sif_elements.specs.declared.progress.Progress.{Progress}
-use Rattle.sif_elements.specs.Small.{IsSmall}
+use Rattle.st_tree.specs.Small.{IsSmall}
 use Rattle.sif_elements.specs.Turns.{Onward, turn_of}
 use Rattle.sif_elements.proofs.Only.{takes_of}
 use Rattle.sif_elements.proofs.Ahead.{IsBefore-new, IsBefore-given, at_start, at_answer, after_element, answered, turn_goes, step_goes, fault_fails, no_fault, if_read, if_ended, if_between}
