@@ -17,7 +17,7 @@ units_of Start = []
 units_of (Between us) = us
 units_of (Awaiting us t) = us
 
-elements_of_kind-most : (kind : UnitKind) → elements_of_kind kind ≤ 2
+pub elements_of_kind-most : (kind : UnitKind) → elements_of_kind kind ≤ 2
 elements_of_kind-most (kinds.Version t) = omega arith
 elements_of_kind-most (kinds.Class c) = omega arith
 elements_of_kind-most (kinds.GlobalVariable n) = omega arith

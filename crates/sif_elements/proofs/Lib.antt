@@ -10,5 +10,8 @@ mod HeaderSizes
 mod Sized
 mod Readable
 mod TextBytes
+mod SmallReading
+pub mod SmallLemmas
+mod SmallExamples
 pub mod StepLemmas
 pub mod WordLemmas

@@ -16,7 +16,7 @@ doubled_by : (c : Bool) (b : ℕ) (bs : List ℕ) → length bs ≤ length (doub
 doubled_by true b bs h = omega (arith, h)
 doubled_by false b bs h = omega (arith, h)
 
-doubled-length : (t : List ℕ) → length t ≤ length (doubled t)
+pub doubled-length : (t : List ℕ) → length t ≤ length (doubled t)
 doubled-length [] = omega arith
 doubled-length (b ∷ bs) = doubled_by (b == 33) b bs (doubled-length bs)
 
@@ -52,7 +52,7 @@ element_joined ended n m [] rest text e b is = absurd (no_last ended n m rest te
 element_joined ended n m (t ∷ texts) rest text e b is =
     joined_by ended n m t texts rest text e b (ltb max_text (length t)) (is_white t) is (element_joined ended n m texts rest text e b)
 
-parts-joined : (bytes : List ℕ) → bytes ≡ joined (parts_of true bytes).texts (parts_of true bytes).rest
+pub parts-joined : (bytes : List ℕ) → bytes ≡ joined (parts_of true bytes).texts (parts_of true bytes).rest
 parts-joined bytes = ((Split-parts_of bytes (parts_of true bytes).texts (parts_of true bytes).rest).1 refl).whole
 
 -- ---- an element at the end of the input
