@@ -3,3 +3,10 @@ pub mod LaidLemmas
 pub mod Steps
 pub mod Shown
 pub mod Lexing
+pub mod Built
+pub mod Exports
+pub mod ItemExports
+pub mod MessageParts
+pub mod ExprExports
+pub mod Opened
+pub mod TextTokens
