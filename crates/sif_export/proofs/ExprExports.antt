@@ -73,7 +73,7 @@ pub data SomeStatements (ss : List Statement) (a r : List Sym) : Type 0 where
 
 -- ---- names
 
-head_same : {A : Type 0} {x y : A} {xs ys : List A} → x ≡ y → xs ≡ ys → x ∷ xs ≡ y ∷ ys
+pub head_same : {A : Type 0} {x y : A} {xs ys : List A} → x ≡ y → xs ≡ ys → x ∷ xs ≡ y ∷ ys
 head_same e f = ap₂ (λ x xs. x ∷ xs) e f
 
 names_none : (ss r : List Sym) → Nothing ss r → SomeNames [] ss r
@@ -231,7 +231,7 @@ pub data IsConstant : Primary → Type 0 where
 value_inside : (p q : Primary) → IsValue p ≡ IsValue q → p ≡ q
 value_inside p q e = cc
 
-constant_of : (t : List ℕ) (p : Primary) → role t ≡ IsValue p → IsConstant p
+pub constant_of : (t : List ℕ) (p : Primary) → role t ≡ IsValue p → IsConstant p
 unfolding role
 constant_of t p e = of (bytes_eq t (codes "nil")) (bytes_eq t (codes "true")) (bytes_eq t (codes "false")) (bytes_eq t (codes "self")) (bytes_eq t (codes "super")) e
   where
@@ -419,10 +419,10 @@ sent_made : (v : Bool) (p : Primary) (ms cs : List Message) → Fine v ms → Re
 sent_made v p ms cs fine receives ss r (then_is (some_primary q d e) (then_is (some_messages ns m f) (some_cascade ds c h))) =
     some_expr [] (operand q ns) ds (g.sent d m (fine_same v ms ns f fine) c (receives_same ms ns cs ds f h receives)) refl (operand_same p q ms ns e f) h
 
-words-assigned : (t : List ℕ) (at : ℕ) (ns : List Name) (o : Operand) (cs : List Message) → expr_words (expr (name t at ∷ ns) o cs) ≡ word.Named t ∷ (Mark sign.Assign ∷ expr_words (expr ns o cs))
+pub words-assigned : (t : List ℕ) (at : ℕ) (ns : List Name) (o : Operand) (cs : List Message) → expr_words (expr (name t at ∷ ns) o cs) ≡ word.Named t ∷ (Mark sign.Assign ∷ expr_words (expr ns o cs))
 words-assigned t at ns o cs = words-expr (name t at ∷ ns) o cs ∙ ap (λ (ws : Words). word.Named t ∷ (Mark sign.Assign ∷ ws)) (sym (words-expr ns o cs))
 
-words-sent : (p : Primary) (ms cs : List Message) → expr_words (expr [] (operand p ms) cs) ≡ primary_words p ++ (chain_words ms ++ cascade_words cs)
+pub words-sent : (p : Primary) (ms cs : List Message) → expr_words (expr [] (operand p ms) cs) ≡ primary_words p ++ (chain_words ms ++ cascade_words cs)
 words-sent p ms cs = words-expr [] (operand p ms) cs ∙ ap (λ (ws : Words). ws ++ cascade_words cs) (words-operand p ms) ∙ append_assoc (primary_words p) (chain_words ms) (cascade_words cs)
 
 -- ---- statements
@@ -456,16 +456,16 @@ more_statements_made stop inner_dot ns o cs xs ss r (then_is (some_expr ms q ds 
 more_statements_made stop top_dot ns o cs xs ss r (then_is (some_expr ms q ds d e f h) (then_is (placed at) (some_statements ys x k))) = some_statements (stated false (expr ms q ds) ∷ ys) (g.more_statements d x) (head_same (value_same ns ms o q cs ds e f h) k)
 
 -- the statements behind a period
-abbrev statements_of : Sign → List Statement → Words
+abbrev pub statements_of : Sign → List Statement → Words
 statements_of stop ss = parted (Mark stop) (map statement_words ss)
 
-words-one : (stop : Sign) (ns : List Name) (o : Operand) (cs : List Message) → statements_of stop (stated false (expr ns o cs) ∷ []) ≡ expr_words (expr ns o cs)
+pub words-one : (stop : Sign) (ns : List Name) (o : Operand) (cs : List Message) → statements_of stop (stated false (expr ns o cs) ∷ []) ≡ expr_words (expr ns o cs)
 words-one stop ns o cs = append-nil (statement_words (stated false (expr ns o cs))) ∙ words-value (expr ns o cs)
 
-words-returned : (stop : Sign) (ns : List Name) (o : Operand) (cs : List Message) → statements_of stop (stated true (expr ns o cs) ∷ []) ≡ Mark sign.Caret ∷ expr_words (expr ns o cs)
+pub words-returned : (stop : Sign) (ns : List Name) (o : Operand) (cs : List Message) → statements_of stop (stated true (expr ns o cs) ∷ []) ≡ Mark sign.Caret ∷ expr_words (expr ns o cs)
 words-returned stop ns o cs = append-nil (statement_words (stated true (expr ns o cs))) ∙ words-return (expr ns o cs)
 
-words-statements : (stop : Sign) (ns : List Name) (o : Operand) (cs : List Message) (x : Statement) (xs : List Statement) → statements_of stop (stated false (expr ns o cs) ∷ x ∷ xs) ≡ expr_words (expr ns o cs) ++ (Mark stop ∷ statements_of stop (x ∷ xs))
+pub words-statements : (stop : Sign) (ns : List Name) (o : Operand) (cs : List Message) (x : Statement) (xs : List Statement) → statements_of stop (stated false (expr ns o cs) ∷ x ∷ xs) ≡ expr_words (expr ns o cs) ++ (Mark stop ∷ statements_of stop (x ∷ xs))
 words-statements stop ns o cs x xs = ap (λ (ws : Words). ws ++ (Mark stop ∷ statements_of stop (x ∷ xs))) (words-value (expr ns o cs))
 
 no_more : {b c : List Sym} → g.Statements b c [] → (AllFormed b → AllFormed c) × (moves b ≡ moves c)

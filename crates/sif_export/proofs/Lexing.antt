@@ -85,10 +85,10 @@ AreWell (w ∷ ws) = IsWell w × AreWell ws
 
 -- ---- the text of one word
 
-blank_joined : Blank ≢ Joined
+pub blank_joined : Blank ≢ Joined
 blank_joined e = cc
 
-line_joined : Line ≢ Joined
+pub line_joined : Line ≢ Joined
 line_joined e = cc
 
 pub inside : (t : List ℕ) → Inside (quotes_doubled t)
@@ -115,7 +115,7 @@ run_some p (c ∷ cs) is = omega arith
 key_some : (name : List ℕ) → 0 < length (name ++ 58 ∷ [])
 key_some name = omega (arith, length-append name (58 ∷ []))
 
-wide : (n : ℕ) → n ≤ 2 ^ 127 → n < 10 ^ 64
+pub wide : (n : ℕ) → n ≤ 2 ^ 127 → n < 10 ^ 64
 wide n low = omega (arith, low)
 
 integer-front : (n : ℕ) (b : List ℕ) → n ≤ 2 ^ 127 → IsStop b → front_at (decimal n ++ b) ≡ Lexeme (kind.Integer n) (length (decimal n))

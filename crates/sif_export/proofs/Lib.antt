@@ -10,3 +10,4 @@ pub mod MessageParts
 pub mod ExprExports
 pub mod Opened
 pub mod TextTokens
+pub mod TextExports
