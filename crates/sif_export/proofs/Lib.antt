@@ -11,3 +11,4 @@ pub mod ExprExports
 pub mod Opened
 pub mod TextTokens
 pub mod TextExports
+pub mod SeenHeaders
