@@ -12,3 +12,6 @@ pub mod Opened
 pub mod TextTokens
 pub mod TextExports
 pub mod SeenHeaders
+pub mod ReadHeaders
+pub mod HeaderExports
+pub mod UnitExports

@@ -1,3 +1,4 @@
 pub mod Words
 pub mod TreeWords
 pub mod ExportText
+pub mod RoundTrip
