@@ -15,3 +15,5 @@ pub mod SeenHeaders
 pub mod ReadHeaders
 pub mod HeaderExports
 pub mod UnitExports
+pub mod Paths
+pub mod RoundTripLaw

@@ -10,7 +10,7 @@ use Rattle.st_tree.specs.Same.{SameDefinition}
 use Rattle.st_tree.specs.Units.{Units}
 use Rattle.st_tree.specs.declared.units.Unit as unit
 use Rattle.st_tree.specs.declared.units.Definition.{Definition}
-use Rattle.sif_elements.specs.Reading.{Answer, Read, Refuse}
+use Rattle.sif_elements.specs.Reading.{Reads, Refuses}
 use Rattle.sif_export.specs.ExportText.{element_texts, export_text}
 
 -- none of the texts is white space alone, so each is an element's
@@ -52,9 +52,8 @@ is_within units = nat_le (length (export_text units)) max_input && list_all is_s
 abbrev pub IsLength : Reason → Type 0
 IsLength why = (why ≡ reason.ElementTooLong) ⊎ (why ≡ reason.InputTooLong)
 
--- what is read of a program's text: within the limits a program that is the same, else that it is too long
-abbrev pub Outcome : Bool → Definition → Answer → Type 0
-Outcome true d (Read units) = SameDefinition (definition units) d
-Outcome true d (Refuse number byte why) = ⊥
-Outcome false d (Read units) = ⊥
-Outcome false d (Refuse number byte why) = IsLength why
+-- What is read of a program's text: where it is within the limits, a program that is the same; else, that an element or
+-- the input is too long.
+abbrev pub Outcome : Bool → Definition → List ℕ → Type 0
+Outcome true d bytes = (units : List unit.Unit) × Reads bytes units × SameDefinition (definition units) d
+Outcome false d bytes = (number byte : ℕ) × (why : Reason) × Refuses bytes true number byte why × IsLength why
