@@ -1,26 +1,25 @@
 -- The words of trees that the grammar builds, and these trees without places.
-use Rattle.std.proofs.Common.{◌≡◌, ℕ, List, [], ◌∷◌, ◌++◌, Bool, true, false, map, refl, ap, sym, ◌∙◌, append_assoc}
+use Rattle.std.proofs.Common.{◌≡◌, ℕ, List, [], ◌∷◌, ◌++◌, true, false, map, ap, sym, ◌∙◌, append_assoc}
 use Rattle.st_tree.specs.declared.tree.Name.{Name}
 use Rattle.st_tree.specs.declared.tree.Literal.{Literal}
 use Rattle.st_tree.specs.declared.tree.Primary.{Primary, roll-Primary}
 use Rattle.st_tree.specs.declared.tree.Statement.{Statement}
 use Rattle.st_tree.specs.declared.tree.Block.{Block, roll-Block}
-use Rattle.st_tree.specs.declared.tree.Body.{Body, roll-Body, out-Body}
+use Rattle.st_tree.specs.declared.tree.Body.{Body, roll-Body}
 use Rattle.st_tree.specs.declared.tree.Expr.{Expr}
 use Rattle.st_tree.specs.declared.tree.Message.{Message}
 use Rattle.st_tree.specs.declared.tree.Operand.{Operand}
 use Rattle.st_tree.specs.declared.tree.Primary.TheOpen.{Primary-F, Statement-F}
-use Rattle.st_tree.specs.declared.tree.Primary.TheFolds.{fold-Primary, fold-Statement, fold-Block, fold-Body, fold-Expr, fold-Message, fold-Operand, fold-roll-Primary, fold-roll-Statement, fold-roll-Block, fold-roll-Body, fold-roll-Expr, fold-roll-Message, fold-roll-Operand}
+use Rattle.st_tree.specs.declared.tree.Primary.TheFolds.{fold-Primary, fold-Statement, fold-Block, fold-Expr, fold-Message, fold-Operand, fold-roll-Primary, fold-roll-Statement, fold-roll-Block, fold-roll-Body, fold-roll-Expr, fold-roll-Message, fold-roll-Operand}
 use Rattle.st_tree.specs.declared.tree.Primary.TheViews.{out-roll-Body, rolls-Value, rolls-Return}
 use Rattle.st_tree.specs.declared.tree.Primary.TheVariants as primary
 use Rattle.st_tree.specs.declared.tree.Primary.TheVariants.{rolls-Variable, rolls-SelfValue, rolls-SuperValue, rolls-Literal, rolls-Block, rolls-Paren}
-use Rattle.st_tree.specs.declared.tree.Statement.TheVariants as statement
 use Rattle.st_tree.specs.Same.{bare_name, bare_primary, bare_statement, bare_block, bare_body, bare_expr, bare_message, bare_operand, bare}
-use Rattle.st_tree.specs.Trees.{name, variable, message, operand, expr, body, paren, block, stated}
-use Rattle.sif_export.specs.Words.{Word, Mark, Named, Sign}
+use Rattle.st_tree.specs.Trees.{variable, message, operand, expr, body, paren, block, stated}
+use Rattle.sif_export.specs.Words.{Mark, Sign}
 use Rattle.sif_export.specs.declared.sign.Sign.TheVariants as sign
-use Rattle.sif_export.specs.TreeWords.{Words, joined, each_behind, parted, message_words, target_words, temporary_words, parameter_words, body_words, body_parts, inner_words, top_words, at_primary, at_statement, at_block, at_body, at_expr, at_message, at_operand, primary_words, statement_words, block_words, expr_words, each_message, operand_words}
-use Rattle.sif_export.proofs.Steps.{paren_in, block_in, block_out, value_in, return_in}
+use Rattle.sif_export.specs.TreeWords.{Words, joined, each_behind, parted, message_words, target_words, temporary_words, parameter_words, body_words, body_parts, inner_words, at_primary, at_statement, at_block, at_body, at_expr, at_message, at_operand, primary_words, statement_words, block_words, expr_words, each_message, operand_words}
+use Rattle.sif_export.proofs.Steps.{paren_in, value_in, return_in}
 
 -- ---- words
 

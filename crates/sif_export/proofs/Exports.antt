@@ -1,10 +1,10 @@
 -- Tokens that words come to, and what they have in common with the tokens that a tree was read from.
-use Rattle.std.proofs.Common.{◌≡◌, ◌+◌, ◌-◌, ◌^◌, ◌<◌, ◌≤◌, ℕ, ℤ, pos, negsuc, zero, suc, Bool, true, false, true≢false, List, [], ◌∷◌, ◌++◌, map, refl, ap, sym, ◌∙◌, subst, append_assoc, append-nil, arith}
+use Rattle.std.proofs.Common.{◌≡◌, ◌+◌, ℕ, ℤ, pos, negsuc, suc, Bool, true, false, List, [], ◌∷◌, ◌++◌, refl, ap, sym, ◌∙◌, subst, append_assoc}
 use Rattle.st_base.specs.TokenBytes.{is_operator_byte}
 use Rattle.st_base.specs.Lexes.{is_identifier, is_run}
 use Rattle.st_tree.specs.declared.tree.Literal.{Literal}
 use Rattle.st_tree.specs.declared.tree.Literal.TheVariants as literal
-use Rattle.st_tree.specs.Symbols.{Sym, Id, Key, Op, Minus, Bar, TwoBars, ThreeBars, Num, Lit, ArrayOpen, ParenOpen, ParenClose, BlockOpen, BlockClose, Colon, Assign, Caret, Period, Semicolon, operator_at}
+use Rattle.st_tree.specs.Symbols.{Sym, Id, Key, Op, Minus, Bar, Num, Lit, ArrayOpen, ParenOpen, ParenClose, BlockOpen, BlockClose, Colon, Assign, Caret, Period, Semicolon, operator_at}
 use Rattle.sif_export.specs.Words as word
 use Rattle.sif_export.specs.Words.{Word, Mark, Sign}
 use Rattle.sif_export.specs.declared.sign.Sign.TheVariants as sign

@@ -1,9 +1,9 @@
 -- The words of expressions, statements and blocks, and the tokens that they come to: a tree that is the same.
-use Rattle.std.proofs.Common.{◌≡◌, ◌+◌, ◌^◌, ◌<◌, ◌≤◌, ℕ, zero, suc, pos, negsuc, Bool, true, false, true≢false, List, [], ◌∷◌, ◌++◌, map, codes, refl, ap, ap₂, sym, ◌∙◌, subst, append_assoc, append-nil, arith, if◌then◌else◌}
+use Rattle.std.proofs.Common.{◌≡◌, ◌+◌, ◌^◌, ◌<◌, ◌≤◌, ℕ, zero, suc, pos, negsuc, Bool, true, false, List, [], ◌∷◌, ◌++◌, map, codes, refl, ap, ap₂, sym, ◌∙◌, subst, append_assoc, append-nil, if◌then◌else◌}
 use Rattle.std.specs.Str.{bytes_eq}
 use Rattle.std.proofs.lemmas.List.{map-append}
 use Rattle.st_base.specs.TokenBytes.{is_operator_byte}
-use Rattle.st_base.specs.Lexes.{is_identifier, is_run}
+use Rattle.st_base.specs.Lexes.{is_run}
 use Rattle.st_tree.specs.declared.tree.Name.{Name}
 use Rattle.st_tree.specs.declared.tree.Literal.{Literal}
 use Rattle.st_tree.specs.declared.tree.Literal.TheVariants as literal
@@ -13,18 +13,18 @@ use Rattle.st_tree.specs.declared.tree.Statement.{Statement}
 use Rattle.st_tree.specs.declared.tree.Message.{Message}
 use Rattle.st_tree.specs.declared.tree.Operand.{Operand}
 use Rattle.st_tree.specs.Same.{bare_name}
-use Rattle.st_tree.specs.Symbols.{Sym, Id, Key, Op, Minus, Bar, TwoBars, ThreeBars, Num, Lit, ArrayOpen, ParenOpen, ParenClose, BlockOpen, BlockClose, Colon, Assign, Caret, Period, Semicolon, IsOp, role, IsName, IsValue, IsSuper, Role, operator_at}
-use Rattle.st_tree.specs.Trees.{name, variable, integer, negative, array, constant, message, operand, expr, body, paren, block, stated}
+use Rattle.st_tree.specs.Symbols.{Sym, Id, Key, Bar, ArrayOpen, ParenClose, BlockOpen, BlockClose, Assign, Period, role, IsName, IsValue, IsSuper}
+use Rattle.st_tree.specs.Trees.{name, variable, integer, negative, array, constant, message, operand, expr, paren, block, stated}
 use Rattle.st_tree.specs.Grammar as g
 use Rattle.st_tree.specs.Grammar.{Fine, Receives}
 use Rattle.sif_export.specs.Words as word
 use Rattle.sif_export.specs.Words.{Word, Mark, Sign}
 use Rattle.sif_export.specs.declared.sign.Sign.TheVariants as sign
-use Rattle.sif_export.specs.TreeWords.{Words, literal_words, joined, each_behind, parted, message_words, sent_words, target_words, named_words, temporary_words, colon_words, parameter_words, primary_words, statement_words, expr_words, each_message, operand_words}
+use Rattle.sif_export.specs.TreeWords.{Words, literal_words, joined, each_behind, parted, message_words, sent_words, named_words, temporary_words, colon_words, parameter_words, primary_words, statement_words, expr_words, each_message, operand_words}
 use Rattle.sif_export.proofs.Steps.{literal_in, self_in, super_in, variable_in, joined-append, literal_nil, literal_true, literal_false, literal_integer, literal_character, literal_str, literal_symbol}
-use Rattle.sif_export.proofs.Built.{words-message, words-operand, words-expr, words-paren, words-block, words-value, words-return, bare_p, bare_m, bare_o, bare_e, bare_s, bare-variable, bare-literal, bare-self, bare-super, bare-paren, bare-message, bare-operand, bare-expr, bare-value, bare-return, bare-block}
+use Rattle.sif_export.proofs.Built.{words-message, words-operand, words-expr, words-paren, words-block, words-value, words-return, bare_p, bare_m, bare_o, bare_e, bare_s, bare-variable, bare-paren, bare-message, bare-operand, bare-expr, bare-value, bare-return, bare-block}
 use Rattle.sif_export.proofs.Lexing.{IsKey}
-use Rattle.sif_export.proofs.Exports.{Is, placed, Then, then_is, Nothing, nothing, IsPlain, AllFormed, Formed, moves, Export, exports_word, exports_nothing, exports_then, exports_map, exports_as, exports_from, exports_upto, exports_until, a_character, a_string, a_symbol}
+use Rattle.sif_export.proofs.Exports.{Is, placed, Then, then_is, Nothing, nothing, IsPlain, AllFormed, moves, Export, exports_word, exports_nothing, exports_then, exports_map, exports_as, exports_from, exports_upto, exports_until, a_character, a_string, a_symbol}
 use Rattle.sif_export.proofs.ItemExports.{ItemsOf, items_exported, words-array, small, no_minus, minus_z, zero_same}
 use Rattle.sif_export.proofs.MessageParts.{sent-operator, op_run, op_moves, operator_is, behind_words, sent-key}
 

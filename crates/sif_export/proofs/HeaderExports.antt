@@ -1,6 +1,5 @@
 -- The texts of headers, annotations and comments say what they were written for.
-use Rattle.std.proofs.Common.{◌≡◌, ◌≢◌, ◌+◌, ◌<◌, ◌≤◌, ℕ, zero, suc, Bool, true, false, true≢false, ◌&&◌, ◌||◌, ◌==◌, not, if◌then◌else◌, List, [], ◌∷◌, ◌++◌, map, length, codes, Option, None, Some, refl, ap, ap₂, sym, ◌∙◌, subst, arith, append-nil, append_assoc, inl, inr}
-use Rattle.std.specs.Prelude.{slice_get}
+use Rattle.std.proofs.Common.{◌≡◌, ℕ, true, false, true≢false, ◌==◌, if◌then◌else◌, List, [], ◌∷◌, ◌++◌, map, codes, None, Some, refl, ap, ap₂, sym, ◌∙◌, subst, append-nil, append_assoc, inl, inr}
 use Rattle.std.specs.List.{list_all}
 use Rattle.std.specs.Str.{bytes_eq}
 use Rattle.std.proofs.lemmas.Bool.Decides.{eqb_tells}
@@ -26,18 +25,18 @@ use Rattle.st_tree.specs.declared.units.ClassUnit.{ClassUnit}
 use Rattle.st_tree.specs.declared.units.UnitKind.{UnitKind}
 use Rattle.st_tree.specs.declared.units.UnitKind.TheVariants as unit
 use Rattle.st_tree.specs.declared.units.Annotation.{Annotation}
-use Rattle.st_tree.specs.Headers.{is_name, is_identifier, onto_word, words_behind, words_of, are_names, Slot, Word, AnyString, NameString, NamesString, Way, fits, slots_of, row_of, keyword_row, word_row, Filled, Stuck, holds_name, holds_names, way_of, way_or_none, comments_in, comments_of, says, Element, Says}
+use Rattle.st_tree.specs.Headers.{is_name, is_identifier, onto_word, words_behind, words_of, are_names, Slot, NameString, NamesString, Way, fits, slots_of, keyword_row, word_row, Filled, Stuck, way_of, way_or_none, comments_in, comments_of, says, Says}
 use Rattle.st_tree.specs.Units.{element, first_element}
 use Rattle.sif_export.specs.Words as word
 use Rattle.sif_export.specs.Words.{Joined, Blank, Gap, laid, quoted}
 use Rattle.sif_export.specs.TreeWords.{Words}
-use Rattle.sif_export.specs.ExportText.{keyed, spaced, spaced_behind, way_name, list_words, class_words, annotation_words, string_text, pair_text, class_text, annotation_text, comment_text, lacks}
-use Rattle.sif_export.proofs.Shown.{Seen, seen, Shows, shows_end, shows_white}
+use Rattle.sif_export.specs.ExportText.{spaced, spaced_behind, way_name, class_words, annotation_words, string_text, pair_text, class_text, annotation_text, comment_text, lacks}
+use Rattle.sif_export.proofs.Shown.{Seen, seen, Shows, shows_end}
 use Rattle.sif_export.proofs.Lexing.{IsKey, AreWell, Tokens, lex_laid, token}
 use Rattle.sif_export.proofs.Lexing as lexing
 use Rattle.sif_export.proofs.TextTokens.{string_value-quoted}
-use Rattle.sif_export.proofs.SeenHeaders.{walk_seen, header_seen, element_says, first_says, string_of, class}
-use Rattle.sif_export.proofs.ReadHeaders.{IsOwner, AreNames, GoodClass, GoodKind, GoodTarget, GoodHeader}
+use Rattle.sif_export.proofs.SeenHeaders.{walk_seen, header_seen, element_says, first_says, class}
+use Rattle.sif_export.proofs.ReadHeaders.{AreNames, GoodClass, GoodKind, GoodTarget}
 use Rattle.sif_export.proofs.TextExports.{one_laid, laid_black, HasWord}
 
 -- ---- strings of names

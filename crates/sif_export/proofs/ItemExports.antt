@@ -1,16 +1,16 @@
 -- The words of literals, and the tokens that they come to.
-use Rattle.std.proofs.Common.{◌≡◌, ◌+◌, ◌-◌, ◌^◌, ◌<◌, ◌≤◌, ℕ, ℤ, pos, negsuc, ◌-ℤ◌, zero, suc, Bool, true, false, true≢false, List, [], ◌∷◌, ◌++◌, map, length, if◌then◌else◌, codes, refl, ap, sym, ◌∙◌, subst, append_assoc, append-nil, arith}
+use Rattle.std.proofs.Common.{◌≡◌, ◌^◌, ◌<◌, ◌≤◌, ℕ, pos, negsuc, ◌-ℤ◌, zero, suc, Bool, true, false, List, [], ◌∷◌, ◌++◌, map, if◌then◌else◌, codes, refl, ap, sym, ◌∙◌, subst, arith}
 use Rattle.std.specs.Str.{bytes_eq}
 use Rattle.std.proofs.Math.IntN.{neg_ℤ, +ℤ_idl}
 use Rattle.st_tree.specs.declared.tree.Literal.{Literal}
 use Rattle.st_tree.specs.declared.tree.Literal.TheVariants as literal
-use Rattle.st_tree.specs.Symbols.{Sym, Id, Key, Op, Minus, Bar, TwoBars, ThreeBars, Num, Lit, ArrayOpen, ParenOpen, ParenClose, word_item}
+use Rattle.st_tree.specs.Symbols.{Sym, ParenClose, word_item}
 use Rattle.st_tree.specs.Trees.{integer, negative, array}
 use Rattle.st_tree.specs.Grammar as g
 use Rattle.sif_export.specs.Words as word
 use Rattle.sif_export.specs.Words.{Word, Mark}
 use Rattle.sif_export.specs.declared.sign.Sign.TheVariants as sign
-use Rattle.sif_export.specs.TreeWords.{Words, literal_words, joined}
+use Rattle.sif_export.specs.TreeWords.{literal_words, joined}
 use Rattle.sif_export.proofs.Steps.{literal_array, literal_nil, literal_true, literal_false, literal_integer, literal_character, literal_str, literal_symbol}
 use Rattle.sif_export.proofs.Exports.{Is, placed, Then, then_is, Nothing, nothing, IsPlain, a_character, a_string, a_symbol, AllFormed, moves, Export, exports_word, exports_nothing, exports_then, exports_map, exports_as}
 

@@ -17,3 +17,5 @@ pub mod HeaderExports
 pub mod UnitExports
 pub mod Paths
 pub mod RoundTripLaw
+pub mod SameWords
+pub mod CanonicalLaw

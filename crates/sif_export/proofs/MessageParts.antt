@@ -1,18 +1,17 @@
 -- The words of messages, by the tokens of their selectors.
-use Rattle.std.proofs.Common.{◌≡◌, ◌≢◌, ◌+◌, ◌<◌, ◌≤◌, ℕ, zero, suc, Bool, true, false, true≢false, ◌&&◌, ◌||◌, ◌==◌, if◌then◌else◌, List, [], ◌∷◌, ◌++◌, map, length, codes, inl, inr, refl, ap, sym, ◌∙◌, subst, append_assoc, append-nil, arith}
+use Rattle.std.proofs.Common.{◌≡◌, ℕ, Bool, true, false, true≢false, ◌==◌, if◌then◌else◌, List, [], ◌∷◌, ◌++◌, codes, inl, inr, refl, ap, sym, ◌∙◌, subst, append_assoc, append-nil}
 use Rattle.std.specs.List.{list_all}
 use Rattle.std.specs.Str.{bytes_eq}
 use Rattle.std.proofs.lemmas.Bool.Decides.{eqb_tells}
 use Rattle.std.proofs.lemmas.Slice.Eq.{bytes_eq-Decides}
-use Rattle.st_base.specs.TokenBytes.{is_letter, is_digit, is_word_byte, is_operator_byte}
+use Rattle.st_base.specs.TokenBytes.{is_letter, is_word_byte, is_operator_byte}
 use Rattle.st_base.specs.Lexes.{is_identifier, is_run}
 use Rattle.st_lexer.proofs.Runs.{and_left, and_right}
 use Rattle.st_lexer.proofs.Cover.{operator_plain}
-use Rattle.st_tree.specs.Symbols.{Sym, Id, Key, Op, Minus, Bar, TwoBars, ThreeBars, IsOp, op, minus, bar, two_bars, three_bars, operator_at}
-use Rattle.st_tree.specs.declared.tree.Operand.{Operand}
+use Rattle.st_tree.specs.Symbols.{Sym, Op, Minus, Bar, TwoBars, ThreeBars, IsOp, op, minus, bar, two_bars, three_bars, operator_at}
 use Rattle.sif_export.specs.Words as word
 use Rattle.sif_export.specs.Words.{Word, Mark}
-use Rattle.sif_export.specs.TreeWords.{Words, first_part, other_parts, part_word, sent_words, operand_words}
+use Rattle.sif_export.specs.TreeWords.{Words, first_part, other_parts, part_word, sent_words}
 use Rattle.sif_export.proofs.Lexing.{IsKey}
 use Rattle.sif_export.proofs.Exports.{Formed, moves}
 

@@ -1,30 +1,25 @@
 -- Elements that lead from one state of a reading to another.
-use Rattle.std.proofs.Common.{◌≡◌, ◌⊎◌, inl, inr, ◌+◌, ◌<◌, ◌≤◌, ℕ, Bool, true, false, true≢false, ◌==◌, ◌&&◌, nat_le, if◌then◌else◌, List, [], ◌∷◌, ◌++◌, map, take, length, Option, None, Some, refl, ap, ap₂, sym, ◌∙◌, subst, arith, append-nil, append_assoc}
+use Rattle.std.proofs.Common.{◌≡◌, inl, inr, ◌+◌, ◌<◌, ◌≤◌, ℕ, Bool, true, false, true≢false, ◌==◌, ◌&&◌, nat_le, if◌then◌else◌, List, [], ◌∷◌, ◌++◌, length, Some, refl, ap, sym, ◌∙◌, subst, arith, append-nil, append_assoc}
 use Rattle.std.specs.List.{list_all}
-use Rattle.std.proofs.lemmas.Bool.Decides.{eqb_tells}
-use Rattle.st_base.specs.Lexed.{lexed_of}
 use Rattle.st_base.specs.declared.faults.Reason.{Reason}
 use Rattle.st_base.specs.declared.faults.Reason.TheVariants as reason
-use Rattle.sif_chunks.specs.Split.{Parts, onto_first, onto, with_text, parts_behind, parts_of}
-use Rattle.sif_chunks.specs.Reading.{is_white, max_text, max_input}
+use Rattle.sif_chunks.specs.Split.{onto_first, onto, with_text, parts_behind}
+use Rattle.sif_chunks.specs.Reading.{is_white, max_text}
 use Rattle.st_tree.specs.declared.headers.Target.{Target}
-use Rattle.st_tree.specs.declared.headers.Header.{Header}
-use Rattle.st_tree.specs.declared.headers.Header.TheVariants.{Whole, Awaits, Annotates}
 use Rattle.st_tree.specs.declared.units.UnitKind.{UnitKind}
 use Rattle.st_tree.specs.declared.units.Annotation.{Annotation}
 use Rattle.st_tree.specs.declared.units.Unit as declared
 use Rattle.st_tree.specs.Grammar.{Tree}
-use Rattle.st_tree.specs.Headers.{UnitOf, initializer, pool_initializer, program_initializer, method, class_method, production_of, Element, Says}
+use Rattle.st_tree.specs.Headers.{UnitOf, initializer, pool_initializer, program_initializer, method, class_method}
 use Rattle.st_tree.specs.Numbers.{unit, annotated}
 use Rattle.st_tree.specs.Units as listed
 use Rattle.st_tree.specs.Units.{element, first_element, TextIs, Annotated, no_more, one_more, Further, no_units, whole, Units, file}
-use Rattle.st_parser.specs.Verdict.{Verdict, Good, verdict_of}
 use Rattle.st_parser.proofs.Verdicts.{tree_found}
 use Rattle.sif_elements.specs.declared.progress.Progress.{Progress}
-use Rattle.sif_elements.specs.declared.progress.Progress.TheVariants.{Start, Between, Awaiting}
+use Rattle.sif_elements.specs.declared.progress.Progress.TheVariants.{Start, Between}
 use Rattle.sif_elements.specs.Reading as reading
 use Rattle.sif_elements.specs.Reading.{Answer, Read, Refuse, Takes, Answers, long_text, taken, long_rest, long_input, all_read}
-use Rattle.sif_elements.specs.Steps.{kind_of, Step, Goes, behind_element, behind_text, behind_tree, step_of}
+use Rattle.sif_elements.specs.Steps.{kind_of, Goes, behind_element, behind_text, behind_tree, step_of}
 use Rattle.sif_export.specs.RoundTrip.{AreElements, is_short, IsLength}
 
 -- each of the texts is an element that is taken

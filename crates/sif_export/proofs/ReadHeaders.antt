@@ -1,5 +1,5 @@
 -- What holds of headers that were read.
-use Rattle.std.proofs.Common.{◌≡◌, ◌+◌, ◌<◌, ◌≤◌, ℕ, zero, suc, Bool, true, false, true≢false, ◌&&◌, ◌||◌, ◌==◌, not, if◌then◌else◌, List, [], ◌∷◌, ◌++◌, map, length, codes, Option, None, Some, refl, ap, sym, ◌∙◌, subst, arith, inl, inr}
+use Rattle.std.proofs.Common.{◌≡◌, ℕ, zero, suc, Bool, true, false, true≢false, ◌&&◌, ◌==◌, if◌then◌else◌, List, [], ◌∷◌, ◌++◌, length, codes, Option, None, Some, refl, ap, sym, ◌∙◌, subst, inl, inr}
 use Rattle.std.specs.Prelude.{slice_get}
 use Rattle.std.specs.List.{list_all}
 use Rattle.std.specs.Str.{bytes_eq}
@@ -10,15 +10,15 @@ use Rattle.st_base.specs.declared.tokens.TokenKind.TheVariants as kind
 use Rattle.st_base.specs.declared.tokens.LexFault.{LexFault}
 use Rattle.st_base.specs.declared.faults.Reason.{Reason}
 use Rattle.st_base.specs.declared.faults.Reason.TheVariants as reason
-use Rattle.st_base.specs.TokenBytes.{is_letter, is_word_byte, is_white_byte}
+use Rattle.st_base.specs.TokenBytes.{is_white_byte}
 use Rattle.st_base.specs.Lexed.{lexed_of}
 use Rattle.st_base.specs.Lexes.{LexesFrom, ended, white, comment, token, spoiled}
 use Rattle.st_base.specs.Lexes as lexes
-use Rattle.st_lexer.proofs.Runs.{and_left, and_right, and_both}
+use Rattle.st_lexer.proofs.Runs.{and_right}
 use Rattle.st_lexer.proofs.Sound.{is_inner}
 use Rattle.st_lexer.proofs.LexesLaw.{lexes-from}
 use Rattle.sif_chunks.specs.Reading.{is_white}
-use Rattle.st_tree.specs.Symbols.{Sym, text_of, string_value, sym_at, sym_of, syms}
+use Rattle.st_tree.specs.Symbols.{text_of, sym_at, syms}
 use Rattle.st_tree.specs.declared.headers.Row.{Row}
 use Rattle.st_tree.specs.declared.headers.Row.TheVariants as row
 use Rattle.st_tree.specs.declared.headers.Target.{Target}
@@ -28,8 +28,8 @@ use Rattle.st_tree.specs.declared.headers.Header.TheVariants.{Whole, Awaits, Ann
 use Rattle.st_tree.specs.declared.units.ClassUnit.{ClassUnit}
 use Rattle.st_tree.specs.declared.units.UnitKind.{UnitKind}
 use Rattle.st_tree.specs.declared.units.UnitKind.TheVariants as unit
-use Rattle.st_tree.specs.Headers.{is_name, is_identifier, onto_word, words_of, Slot, NameString, NamesString, fits, slots_of, row_of, keyword_row, word_row, Walk, Filled, Stuck, Short, walk, is_identifier_kind, is_keyword_kind, is_string_kind, string_in, string_at, class_of, header_of, Element, Says, Faulty, judged, by_row, says, comments_in, comments_of, comment_element, holds_name, holds_names}
-use Rattle.st_tree.specs.Units.{element, first_element}
+use Rattle.st_tree.specs.Headers.{is_name, onto_word, words_of, Slot, NameString, NamesString, fits, slots_of, row_of, keyword_row, word_row, Walk, Filled, Stuck, Short, walk, is_identifier_kind, is_keyword_kind, is_string_kind, string_in, header_of, Element, Says, Faulty, judged, by_row, says, comments_in, comments_of, holds_name, holds_names}
+use Rattle.st_tree.specs.Units.{element}
 use Rattle.sif_export.specs.ExportText.{lacks}
 use Rattle.sif_export.proofs.Exports.{Formed, AllFormed}
 use Rattle.sif_export.proofs.TextTokens.{text_formed}

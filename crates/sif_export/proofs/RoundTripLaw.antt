@@ -1,20 +1,19 @@
 -- The text of a program is read as a program that is the same, or is too long.
-use Rattle.std.proofs.Common.{◌≡◌, ◌+◌, ◌<◌, ◌≤◌, ℕ, zero, suc, Bool, true, false, true≢false, ◌&&◌, nat_le, List, [], ◌∷◌, ◌++◌, map, take, drop, length, refl, ap, sym, ◌∙◌, subst, arith, append_assoc}
+use Rattle.std.proofs.Common.{◌≡◌, ◌≤◌, ℕ, zero, suc, Bool, true, false, true≢false, ◌&&◌, nat_le, List, [], ◌∷◌, ◌++◌, map, take, drop, length, refl, ap, sym, ◌∙◌, subst, arith}
 use Rattle.std.specs.List.{list_all}
 use Rattle.std.proofs.lemmas.List.{take-append-drop}
-use Rattle.sif_chunks.specs.Split.{Parts, Split, parts_of}
+use Rattle.sif_chunks.specs.Split.{Split, parts_of}
 use Rattle.sif_chunks.specs.Reading.{max_text, max_input}
-use Rattle.sif_chunks.specs.Writing.{all_closed, on_new_lines}
+use Rattle.sif_chunks.specs.Writing.{all_closed}
 use Rattle.sif_chunks.proofs.WrittenLaw.{written-Split}
 use Rattle.sif_chunks.proofs.SplitLaw.{Split-parts_of}
 use Rattle.st_tree.specs.declared.units.Unit as unit
 use Rattle.st_tree.specs.declared.units.Definition.{Definition}
 use Rattle.st_tree.specs.Same.{bare_unit, SameDefinition}
-use Rattle.st_tree.specs.Units.{Units}
 use Rattle.sif_elements.specs.declared.progress.Progress.TheVariants.{Start, Between}
-use Rattle.sif_elements.specs.Reading.{Answers, Reads, Refuses, Read, Refuse, is_whole, parts}
+use Rattle.sif_elements.specs.Reading.{Answers, Read, Refuse, is_whole, parts}
 use Rattle.sif_export.specs.ExportText.{element_texts, export_text}
-use Rattle.sif_export.specs.RoundTrip.{AreElements, IsReadable, definition, ReadsAs, on_lines, is_short, is_within, Outcome}
+use Rattle.sif_export.specs.RoundTrip.{IsReadable, definition, ReadsAs, on_lines, is_short, is_within, Outcome}
 use Rattle.sif_export.proofs.UnitExports.{UnitsRead, units_read}
 use Rattle.sif_export.proofs.Paths.{Path, units_path, read_path, long_path, cut_path, cut_front, IsFront, TooLong}
 

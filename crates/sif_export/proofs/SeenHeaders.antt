@@ -1,11 +1,9 @@
 -- What an element says, by its tokens as they are seen.
-use Rattle.std.proofs.Common.{◌≡◌, ◌+◌, ◌-◌, ◌<◌, ◌≤◌, ℕ, zero, suc, Bool, true, false, true≢false, ◌&&◌, ◌||◌, not, if◌then◌else◌, List, [], ◌∷◌, ◌++◌, map, drop, length, codes, Option, None, Some, refl, ap, ap₂, sym, ◌∙◌, subst, arith, append-nil}
+use Rattle.std.proofs.Common.{◌≡◌, ℕ, zero, suc, true, ◌&&◌, if◌then◌else◌, List, [], ◌∷◌, map, length, codes, Option, None, Some, refl, ap, ap₂, ◌∙◌}
 use Rattle.std.specs.Prelude.{slice_get}
 use Rattle.std.specs.Str.{bytes_eq}
 use Rattle.st_base.specs.declared.tokens.Token.{Token}
-use Rattle.st_base.specs.declared.tokens.TokenKind.{TokenKind}
 use Rattle.st_base.specs.declared.tokens.TokenKind.TheVariants as kind
-use Rattle.st_base.specs.declared.tokens.LexFault.{LexFault}
 use Rattle.st_base.specs.declared.faults.Reason.TheVariants as reason
 use Rattle.st_base.specs.Lexed.{lexed_of}
 use Rattle.st_tree.specs.Symbols.{text_of, string_value}
@@ -18,7 +16,7 @@ use Rattle.st_tree.specs.declared.units.Indexed.{Indexed}
 use Rattle.st_tree.specs.declared.units.Indexed.TheVariants as indexed
 use Rattle.st_tree.specs.declared.units.ClassUnit.{ClassUnit}
 use Rattle.st_tree.specs.declared.units.UnitKind.TheVariants as unit
-use Rattle.st_tree.specs.Headers.{words_of, Slot, fits, slots_of, row_of, keyword_row, word_row, Walk, Filled, Stuck, Short, walk, way_of, way_or_none, is_identifier_kind, is_keyword_kind, string_in, string_at, way_in, way_at, class_of, header_of, Element, Says, Faulty, judged, by_row, says, begins_version, says_first}
+use Rattle.st_tree.specs.Headers.{words_of, Slot, fits, slots_of, row_of, Walk, Filled, Stuck, Short, walk, way_of, way_or_none, is_identifier_kind, is_keyword_kind, string_at, way_at, class_of, header_of, Says, Faulty, judged, by_row, says, begins_version, says_first}
 use Rattle.st_tree.specs.Units.{element, first_element}
 use Rattle.sif_export.proofs.Shown.{Seen, seen, Shows}
 
@@ -152,8 +150,8 @@ first_says text p q ps shows pk pt qk qt filled =
     let a = parts.first in
     let b = parts.second in
     let begins : begins_version text (a ∷ b ∷ parts.others) ≡ true =
-        ap₂ (λ s t. is_identifier_kind s.kind && bytes_eq s.text (codes "Smalltalk") && is_keyword_kind t.kind && bytes_eq t.text (codes "interchangeVersion:")) parts.is_first parts.is_second
-        ∙ rw (pk, pt, qk, qt) refl in
+    ap₂ (λ s t. is_identifier_kind s.kind && bytes_eq s.text (codes "Smalltalk") && is_keyword_kind t.kind && bytes_eq t.text (codes "interchangeVersion:")) parts.is_first parts.is_second
+    ∙ rw (pk, pt, qk, qt) refl in
     let filled' : walk_seen (slots_of row.Version) (map (seen text) parts.others) ≡ Filled = ap (walk_seen (slots_of row.Version)) parts.are_others ∙ filled in
     ap (λ l. says_first text (lexed_of text).tokens l) shows.whole ∙ ap (λ ts. says_first text ts None) parts.whole
     ∙ ap (λ x. if x then by_row (Some row.Version) 0 [] text parts.others None else Faulty 0 reason.MissingVersion) begins

@@ -1,9 +1,8 @@
 -- The text of a body, and that of a method, is a tree that is the same.
-use Rattle.std.proofs.Common.{◌≡◌, ◌≢◌, ◌+◌, ◌<◌, ◌≤◌, ℕ, zero, suc, ℤ, pos, negsuc, Bool, true, false, true≢false, ◌&&◌, ◌||◌, ◌==◌, if◌then◌else◌, List, [], ◌∷◌, ◌++◌, map, length, codes, Option, None, Some, refl, ap, ap₂, sym, ◌∙◌, subst, arith, append-nil, append_assoc, inl, inr}
+use Rattle.std.proofs.Common.{◌≡◌, ◌≢◌, ℕ, zero, suc, ℤ, pos, negsuc, Bool, true, false, true≢false, ◌&&◌, ◌==◌, if◌then◌else◌, List, [], ◌∷◌, ◌++◌, map, codes, refl, ap, ap₂, sym, ◌∙◌, subst, arith, append-nil, append_assoc, inl, inr}
 use Rattle.std.specs.List.{list_all}
 use Rattle.std.specs.Fmt.{decimal, signed_decimal}
 use Rattle.std.proofs.lemmas.Bool.Decides.{eqb_tells}
-use Rattle.st_base.specs.declared.tokens.TokenKind.TheVariants as kind
 use Rattle.st_base.specs.TokenBytes.{is_letter, is_digit, is_word_byte, is_operator_byte}
 use Rattle.st_base.specs.Lexed.{lexed_of}
 use Rattle.st_base.specs.Lexes.{is_identifier, is_run}
@@ -15,31 +14,31 @@ use Rattle.st_tree.specs.declared.tree.Name.{Name}
 use Rattle.st_tree.specs.declared.tree.Primary.{Primary}
 use Rattle.st_tree.specs.declared.tree.Primary.TheViews.{out-roll-Body}
 use Rattle.st_tree.specs.declared.tree.Statement.{Statement}
-use Rattle.st_tree.specs.declared.tree.Body.{Body, out-Body}
+use Rattle.st_tree.specs.declared.tree.Body.{Body}
 use Rattle.st_tree.specs.declared.tree.Method.{Method}
 use Rattle.st_tree.specs.declared.tree.Message.{Message}
 use Rattle.st_tree.specs.declared.tree.Operand.{Operand}
 use Rattle.st_tree.specs.declared.tree.Literal.{Literal}
 use Rattle.st_tree.specs.declared.tree.Literal.TheVariants as literal
 use Rattle.st_tree.specs.Same.{bare_name, bare, bare_method}
-use Rattle.st_tree.specs.Symbols.{Sym, Id, IsOp, role, IsName, syms}
-use Rattle.st_tree.specs.Trees.{name, integer, negative, array, constant, expr, body, stated, operand}
+use Rattle.st_tree.specs.Symbols.{Sym, Id, role, IsName, syms}
+use Rattle.st_tree.specs.Trees.{name, integer, negative, array, constant, expr, body}
 use Rattle.st_tree.specs.Grammar as g
 use Rattle.st_tree.specs.Grammar.{Production, AMethod, ABody, Tree, MethodTree, BodyTree, Derives, is_body, is_method}
-use Rattle.st_tree.specs.Faults.{Shallow, IsTree}
+use Rattle.st_tree.specs.Faults.{Shallow}
 use Rattle.st_tree.specs.Units.{TextIs}
 use Rattle.sif_export.specs.Words as word
 use Rattle.sif_export.specs.Words.{Word, Mark, Gap, Joined, Line, spell, closes, gap_bytes, laid, is_bare_symbol, quoted}
 use Rattle.sif_export.specs.declared.sign.Sign.TheVariants as sign
-use Rattle.sif_export.specs.TreeWords.{Words, message_words, sent_words, name_words, pattern_words, top_words, body_parts, temporary_words, parted, statement_words, primary_words, expr_words, literal_words}
+use Rattle.sif_export.specs.TreeWords.{Words, message_words, sent_words, name_words, pattern_words, top_words, temporary_words, parted, statement_words, primary_words, expr_words}
 use Rattle.sif_export.specs.ExportText.{lacks, is_empty_body, body_text, method_text}
 use Rattle.sif_export.proofs.Steps.{variable_in, super_in, self_in, literal_in, literal_nil, literal_true, literal_false, literal_integer, literal_character, literal_str, literal_symbol, body_text-empty, body_text-some}
-use Rattle.sif_export.proofs.Shown.{Seen, Shows, shows_end, shows_white, shows_comment, sym_seen, syms_seen, seen}
+use Rattle.sif_export.proofs.Shown.{Seen, Shows, shows_end, shows_white, shows_comment, sym_seen, syms_seen}
 use Rattle.sif_export.proofs.Lexing.{IsKey, IsWell, AreWell, Tokens, Lexed, lex_laid, laid_stops, line_joined}
 use Rattle.sif_export.proofs.Lexing as lexing
-use Rattle.sif_export.proofs.Exports.{Is, placed, Then, then_is, Toks, Formed, AllFormed, IsPlain, a_character, a_string, a_symbol, moves, word_moves, Export, exports_word, exports_then, exports_map, exports_as}
-use Rattle.sif_export.proofs.ItemExports.{words-array, minus_z}
-use Rattle.sif_export.proofs.Built.{words-body, words-paren, words-block, words-operand, bare_s, bare-body}
+use Rattle.sif_export.proofs.Exports.{Is, placed, Then, then_is, AllFormed, IsPlain, a_character, a_string, a_symbol, Export, exports_word, exports_then, exports_map, exports_as}
+use Rattle.sif_export.proofs.ItemExports.{words-array}
+use Rattle.sif_export.proofs.Built.{words-body, words-paren, words-block, bare-body}
 use Rattle.sif_export.proofs.MessageParts.{sent-operator, sent-key, op_run, op_moves, operator_is}
 use Rattle.sif_export.proofs.ExprExports.{SomeTemps, some_temps, SomeStatements, some_statements, temps_exported, statements_exported, top_bar, top_dot, head_same, IsConstant, is_nil, is_true, is_false, is_self, constant_of, words-sent, words-assigned, words-one, words-returned, words-statements}
 use Rattle.sif_export.proofs.TextTokens.{text_formed, toks_of, toks_moves}
@@ -96,7 +95,7 @@ pub data BodyFrom (b : Body) (ss r : List Sym) : Type 0 where
 pub data MethodFrom (m : Method) (ss r : List Sym) : Type 0 where
   method_from : {mid : List Sym} (ns : List Name) (c : Body) → g.Pattern ss mid m.selector ns → BodyFrom c mid r → map bare_name ns ≡ map bare_name m.parameters → bare c ≡ bare m.body → MethodFrom m ss r
 
-words-top : (ts : List Name) (ss : List Statement) → top_words (body ts ss) ≡ temporary_words sign.BarLine ts ++ parted (Mark sign.PeriodLine) (map statement_words ss)
+pub words-top : (ts : List Name) (ss : List Statement) → top_words (body ts ss) ≡ temporary_words sign.BarLine ts ++ parted (Mark sign.PeriodLine) (map statement_words ss)
 unfolding top_words
 words-top ts ss = words-body sign.PeriodLine sign.BarLine ts ss
 
@@ -114,7 +113,7 @@ method selector ns b = record { selector = selector; parameters = ns; body = b }
 method_made : (selector : List ℕ) (ns : List Name) (b : Body) (ss r : List Sym) → Then (SomePattern selector ns) (BodyFrom b) ss r → MethodFrom (record { selector = selector; parameters = ns; body = b }) ss r
 method_made selector ns b ss r (then_is (some_pattern ms d e) (body_from ts us t s f)) = method_from ms (body ts us) d (body_from ts us t s refl) e f
 
-words-pattern : (selector : List ℕ) (ns : List Name) (b : Body) → pattern_words (record { selector = selector; parameters = ns; body = b }) ≡ message_words selector (map name_words ns)
+pub words-pattern : (selector : List ℕ) (ns : List Name) (b : Body) → pattern_words (record { selector = selector; parameters = ns; body = b }) ≡ message_words selector (map name_words ns)
 unfolding pattern_words
 words-pattern selector ns b = refl
 
@@ -299,7 +298,7 @@ statements_word (g.last_statement {ns = ns} {o = o} {cs = cs} x) f some = let ha
 statements_word (g.more_statements {ns = ns} {o = o} {cs = cs} {ss = []} x s) f some = let has = expr_word x f in (has.0, has.1, words-one sign.PeriodLine ns o cs ∙ has.2)
 statements_word (g.more_statements {ns = ns} {o = o} {cs = cs} {ss = y ∷ ys} x s) f some = front_word _ (words-statements sign.PeriodLine ns o cs y ys) (expr_word x f)
 
-empty-body : (ts : List Name) (ss : List Statement) → is_empty_body (body ts ss) ≡ (lacks ts && lacks ss)
+pub empty-body : (ts : List Name) (ss : List Statement) → is_empty_body (body ts ss) ≡ (lacks ts && lacks ss)
 unfolding body
 empty-body ts ss = ap (λ r. lacks r.temporaries && lacks r.statements) (out-roll-Body (record { temporaries = ts; statements = ss }))
 

@@ -1,8 +1,6 @@
 -- The tokens of texts: of any text, each is of its kind's form; those of words are theirs.
-use Rattle.std.proofs.Common.{◌≡◌, ◌+◌, ◌-◌, ◌<◌, ◌≤◌, ℕ, ℤ, pos, negsuc, zero, suc, Bool, true, false, true≢false, ◌==◌, if◌then◌else◌, List, [], ◌∷◌, ◌++◌, take, drop, length, map, codes, Option, None, Some, refl, ap, sym, ◌∙◌, subst, arith, append-nil, append_assoc, length-append, inl, inr}
-use Rattle.std.specs.Prelude.{slice_index}
+use Rattle.std.proofs.Common.{◌≡◌, ◌+◌, ◌-◌, ℕ, ℤ, pos, negsuc, Bool, true, false, if◌then◌else◌, List, [], ◌∷◌, ◌++◌, take, drop, length, map, codes, Option, refl, ap, sym, ◌∙◌, subst, arith, append_assoc, length-append, inl, inr}
 use Rattle.std.specs.Str.{bytes_eq}
-use Rattle.std.proofs.lemmas.Bool.{ne_eqb}
 use Rattle.std.proofs.lemmas.Bool.Decides.{eqb_tells}
 use Rattle.std.proofs.lemmas.List.{drop_at, map-append}
 use Rattle.std.proofs.Math.Seq.{take-append_seam}
@@ -11,19 +9,19 @@ use Rattle.st_base.specs.declared.tokens.TokenKind.{TokenKind}
 use Rattle.st_base.specs.declared.tokens.TokenKind.TheVariants as kind
 use Rattle.st_base.specs.declared.tokens.LexFault.{LexFault}
 use Rattle.st_base.specs.TokenBytes.{is_operator_byte}
-use Rattle.st_base.specs.Lexed.{lexed_at, lexed_of}
+use Rattle.st_base.specs.Lexed.{lexed_of}
 use Rattle.st_base.specs.Lexes.{HasForm, LexesFrom, ended, white, comment, token, spoiled, is_run}
 use Rattle.st_lexer.proofs.LexesLaw.{lexes-from}
-use Rattle.st_tree.specs.Symbols.{Sym, Id, Key, Op, Minus, Bar, TwoBars, ThreeBars, Num, Lit, sym_at, sym_of, syms, operator_at, unquoted, string_value}
+use Rattle.st_tree.specs.Symbols.{Sym, Op, Minus, Bar, TwoBars, ThreeBars, Lit, sym_at, sym_of, syms, operator_at, unquoted, string_value}
 use Rattle.st_tree.specs.declared.tree.Literal.TheVariants as literal
 use Rattle.sif_export.specs.Words as word
 use Rattle.sif_export.specs.Words.{Word, Mark, Sign, quotes_doubled, quoted, is_bare_symbol}
 use Rattle.sif_export.specs.declared.sign.Sign.TheVariants as sign
 use Rattle.sif_export.specs.TreeWords.{Words}
-use Rattle.sif_export.proofs.Shown.{Seen, seen, sym_seen}
+use Rattle.sif_export.proofs.Shown.{Seen, sym_seen}
 use Rattle.sif_export.proofs.Lexing.{tokens_of, number_tokens, symbol_token, Tokens, kind_of_sign}
 use Rattle.sif_export.proofs.Lexing as lexing
-use Rattle.sif_export.proofs.Exports.{syms_of, number_syms, sign_sym, Toks, no_words, next_word, Formed, AllFormed, IsPlain, a_character, a_string, a_symbol, move, moves, word_move, word_moves}
+use Rattle.sif_export.proofs.Exports.{syms_of, number_syms, sign_sym, Toks, no_words, next_word, Formed, AllFormed, a_character, a_string, a_symbol, move, moves, word_move, word_moves}
 
 -- ---- the tokens of any text
 

@@ -1,34 +1,28 @@
 -- The elements of a program's text are units that are the same.
-use Rattle.std.proofs.Common.{◌≡◌, ◌+◌, ◌<◌, ◌≤◌, ℕ, Bool, true, false, true≢false, List, [], ◌∷◌, ◌++◌, map, drop, length, codes, Option, None, Some, refl, ap, ap₂, sym, ◌∙◌, subst, append-nil, append_assoc}
-use Rattle.std.proofs.lemmas.List.{map-append}
+use Rattle.std.proofs.Common.{◌≡◌, ℕ, false, List, [], ◌∷◌, ◌++◌, map, drop, length, codes, Option, Some, refl, ap, ap₂, sym, ◌∙◌, subst, append_assoc}
 use Rattle.st_base.specs.declared.tokens.Token.{Token}
 use Rattle.st_base.specs.declared.tokens.LexFault.{LexFault}
-use Rattle.st_base.specs.declared.faults.Reason.{Reason}
 use Rattle.st_base.specs.declared.faults.Reason.TheVariants as reason
 use Rattle.st_base.specs.Lexed.{lexed_of}
 use Rattle.sif_chunks.specs.Reading.{is_white}
 use Rattle.sif_chunks.specs.Writing.{on_new_lines}
-use Rattle.st_tree.specs.declared.tree.Body.{Body}
-use Rattle.st_tree.specs.declared.tree.Method.{Method}
 use Rattle.st_tree.specs.declared.headers.Row.TheVariants as row
 use Rattle.st_tree.specs.declared.headers.Target.{Target}
-use Rattle.st_tree.specs.declared.headers.Target.TheVariants as target
-use Rattle.st_tree.specs.declared.headers.Header.{Header}
-use Rattle.st_tree.specs.declared.headers.Header.TheVariants.{Whole, Awaits, Annotates}
+use Rattle.st_tree.specs.declared.headers.Header.TheVariants.{Whole, Awaits}
 use Rattle.st_tree.specs.declared.units.UnitKind.{UnitKind}
 use Rattle.st_tree.specs.declared.units.UnitKind.TheVariants as kinds
 use Rattle.st_tree.specs.declared.units.Annotation.{Annotation}
 use Rattle.st_tree.specs.declared.units.Unit.{Unit}
-use Rattle.st_tree.specs.Same.{bare, bare_method, bare_kind, bare_unit}
-use Rattle.st_tree.specs.Grammar.{Production, AMethod, ABody, Tree, MethodTree, BodyTree}
-use Rattle.st_tree.specs.Headers.{UnitOf, initializer, pool_initializer, program_initializer, method, class_method, production_of, Element, Says, Faulty, slots_of, walk, header_of, judged, by_row, says_first, begins_version, string_at}
+use Rattle.st_tree.specs.Same.{bare_kind, bare_unit}
+use Rattle.st_tree.specs.Grammar.{Tree, MethodTree, BodyTree}
+use Rattle.st_tree.specs.Headers.{UnitOf, initializer, pool_initializer, program_initializer, method, class_method, production_of, Says, slots_of, walk, header_of, by_row, begins_version, string_at}
 use Rattle.st_tree.specs.Numbers.{unit}
-use Rattle.st_tree.specs.Units.{element, first_element, TextIs, Annotated, no_more, one_more, Further, no_units, whole, with_text, Units, file}
-use Rattle.sif_export.specs.ExportText.{string_text, annotation_text, body_text, method_text, kind_texts, unit_texts, element_texts}
+use Rattle.st_tree.specs.Units.{first_element, TextIs, Annotated, no_more, one_more, Further, no_units, whole, with_text, Units, file}
+use Rattle.sif_export.specs.ExportText.{string_text, annotation_text, body_text, method_text, kind_texts, element_texts}
 use Rattle.sif_export.specs.RoundTrip.{AreElements, on_lines}
-use Rattle.sif_export.proofs.TextExports.{TreeRead, BodyRead, MethodRead, tree_read}
-use Rattle.sif_export.proofs.ReadHeaders.{GoodKind, GoodTarget, GoodHeader, element_good, then_says, judged_says}
-use Rattle.sif_export.proofs.HeaderExports.{HeaderRead, whole_text, whole_read, target_text, target_read, annotation_read, version_read}
+use Rattle.sif_export.proofs.TextExports.{TreeRead, tree_read}
+use Rattle.sif_export.proofs.ReadHeaders.{GoodKind, element_good, then_says, judged_says}
+use Rattle.sif_export.proofs.HeaderExports.{whole_text, whole_read, target_text, target_read, annotation_read, version_read}
 
 -- ---- lists of texts
 
@@ -50,7 +44,7 @@ notes_black : (notes : List Annotation) → AreElements (on_new_lines (map annot
 notes_black [] = tt
 notes_black (a ∷ notes) = ((annotation_read a).black, notes_black notes)
 
-notes_rest : {texts rest : List (List ℕ)} {notes : List Annotation} → Annotated texts rest notes → AreElements texts → AreElements rest
+pub notes_rest : {texts rest : List (List ℕ)} {notes : List Annotation} → Annotated texts rest notes → AreElements texts → AreElements rest
 notes_rest no_more h = h
 notes_rest (one_more e a) h = notes_rest a h.1
 

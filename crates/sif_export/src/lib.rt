@@ -3,6 +3,7 @@
 #![tactic(auto)]
 
 mod elements;
+mod law;
 mod pieces;
 mod sign;
 mod symbols;
@@ -10,4 +11,5 @@ mod trees;
 mod units;
 mod words;
 
+pub use law::{a_text_is_read_as_its_program, texts_are_canonical};
 pub use units::export;
