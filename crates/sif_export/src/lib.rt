@@ -7,6 +7,8 @@ mod law;
 mod pieces;
 mod sign;
 mod symbols;
+#[cfg(test)]
+mod tests;
 mod trees;
 mod units;
 mod words;
