@@ -29,7 +29,7 @@ pub data Path : Progress → List (List ℕ) → Progress → Type 0 where
 
 -- ---- the units of a file are a path
 
-annotated-last : (us : List declared.Unit) (kind : UnitKind) (notes : List Annotation) (a : Annotation) → annotated (us ++ unit kind notes ∷ []) a ≡ us ++ unit kind (notes ++ a ∷ []) ∷ []
+pub annotated-last : (us : List declared.Unit) (kind : UnitKind) (notes : List Annotation) (a : Annotation) → annotated (us ++ unit kind notes ∷ []) a ≡ us ++ unit kind (notes ++ a ∷ []) ∷ []
 annotated-last [] kind notes a = refl
 annotated-last (u ∷ []) kind notes a = refl
 annotated-last (u ∷ v ∷ us) kind notes a = ap (λ xs. u ∷ xs) (annotated-last (v ∷ us) kind notes a)
