@@ -1,6 +1,6 @@
 -- A small program's text, computed.
 use Rattle.std.proofs.Common.{◌≡◌, ℕ, pos, List, [], ◌∷◌, ◌++◌, map, codes, refl, ap, sym, ◌∙◌, true, false}
-use Rattle.std.specs.Fmt.{decimal, digits}
+use Rattle.std.specs.Fmt.{digits}
 use Rattle.sif_chunks.specs.Writing.{all_closed}
 use Rattle.st_tree.specs.declared.tree.Name.{Name}
 use Rattle.st_tree.specs.declared.tree.Literal.TheVariants as literal
@@ -49,7 +49,7 @@ program_words : top_words program ≡ Mark sign.Bar ∷ Named a ∷ Mark sign.Ba
 program_words = words-top (name a 0 ∷ []) (stated false first ∷ stated false second ∷ []) ∙ simp (words-value, first_words, second_words)
 
 program_text : body_text program ≡ codes "| a |\n\ta := (3 + 4) negated.\n\tTranscript show: 'x!'; cr"
-unfolding decimal digits
+unfolding digits
 program_text = body_text-some program (sym (empty-body (name a 0 ∷ []) (stated false first ∷ stated false second ∷ []))) ∙ ap (laid Joined) program_words
 
 pub a_program : export_text (unit (kinds.Version (codes "1.0")) [] ∷ unit (kinds.ProgramInitializer program) [] ∷ []) ≡ codes "Smalltalk interchangeVersion: '1.0'!\nGlobal initializer!\n| a |\n\ta := (3 + 4) negated.\n\tTranscript show: 'x!!'; cr!\n"

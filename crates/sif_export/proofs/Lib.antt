@@ -19,3 +19,5 @@ pub mod Paths
 pub mod RoundTripLaw
 pub mod SameWords
 pub mod CanonicalLaw
+pub mod Readable
+mod Examples

@@ -113,7 +113,7 @@ walked (long_input h) us e = refused e
 walked (unfinished h w) us e = refused e
 walked (nothing_read h w) us e = refused e
 walked (no_text_behind h w) us e = refused e
-walked (all_read h w) us e = record { elements = []; black = tt; path = subst (λ vs. Path _ [] (Between vs)) (read_same e) path_end }
+walked (all_read {us = vs} h w) us e = record { elements = []; black = tt; path = subst (λ ws. Path (Between vs) [] (Between ws)) (read_same e) path_end }
 
 -- the units that were read of a file are readable
 pub reads_readable : (bytes : List ℕ) (us : List declared.Unit) → Reads bytes us → IsReadable us

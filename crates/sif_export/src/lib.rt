@@ -13,5 +13,5 @@ mod trees;
 mod units;
 mod words;
 
-pub use law::{a_text_is_read_as_its_program, texts_are_canonical};
+pub use law::{a_text_is_read_as_its_program, texts_are_canonical, what_is_read_is_readable};
 pub use units::export;
