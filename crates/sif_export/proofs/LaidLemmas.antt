@@ -1,5 +1,5 @@
 -- Words that are written one after the other.
-use Rattle.std.proofs.Common.{◌≡◌, ◌≢◌, ◌+◌, ◌<◌, ◌≤◌, take, drop, length, get_or, ℕ, Bool, true, false, if◌then◌else◌, List, [], ◌∷◌, ◌++◌, refl, ap, sym, ◌∙◌, append_assoc, subst, Option, Some, None, Result, Ok, Err}
+use Rattle.std.proofs.Common.{◌≡◌, ℕ, Bool, if◌then◌else◌, List, [], ◌∷◌, ◌++◌, refl, ap, sym, ◌∙◌, append_assoc, subst, Option, Result, Ok, Err}
 use Rattle.std.specs.Io.KnownBytes.{append_known}
 use Rattle.std.proofs.lemmas.List.{append-nil}
 use Rattle.st_base.specs.Streams.{GainsPrefix}
@@ -7,8 +7,8 @@ use Rattle.st_base.proofs.Known.{append_known-append}
 use Rattle.sif_chunks.specs.Split.{doubled}
 use Rattle.sif_chunks.specs.Writing.{closing, closed}
 use Rattle.sif_chunks.proofs.WriterLemmas.{doubled-append, gains_behind}
-use Rattle.sif_export.specs.Words.{Word, Mark, Gap, Blank, spell, closes, behind, gap_bytes, led, laid, due, Done, Lays, IsSpelled, Gains}
-use Rattle.sif_export.proofs.PieceLemmas.{started, gained_then, gains_stop, gains_then, written_then, fails_then}
+use Rattle.sif_export.specs.Words.{Word, Gap, Blank, spell, behind, gap_bytes, led, laid, due, Done, Lays, IsSpelled, Gains}
+use Rattle.sif_export.proofs.PieceLemmas.{started, gains_stop, gains_then, written_then, fails_then}
 
 pub laid-append : (g : Gap) (a b : List Word) → laid g (a ++ b) ≡ laid g a ++ laid (due g a) b
 laid-append g [] b = refl

@@ -1,21 +1,19 @@
 -- The text of words has their tokens.
-use Rattle.std.proofs.Common.{◌≡◌, ◌≢◌, ◌+◌, ◌-◌, ◌^◌, ◌<◌, ◌≤◌, ℕ, ℤ, pos, negsuc, zero, suc, Bool, true, false, true≢false, ◌&&◌, ◌||◌, ◌==◌, not, if◌then◌else◌, List, [], ◌∷◌, ◌++◌, take, drop, length, refl, ap, sym, ◌∙◌, subst, arith, append-nil, append_assoc, length-append, inl, inr, ◌⊎◌}
+use Rattle.std.proofs.Common.{◌≡◌, ◌≢◌, ◌+◌, ◌^◌, ◌<◌, ◌≤◌, ℕ, ℤ, pos, negsuc, suc, Bool, true, false, true≢false, ◌&&◌, ◌||◌, ◌==◌, if◌then◌else◌, List, [], ◌∷◌, ◌++◌, length, refl, ap, sym, ◌∙◌, subst, arith, append-nil, append_assoc, length-append, inl, inr, ◌⊎◌}
 use Rattle.std.specs.List.{list_all}
 use Rattle.std.specs.Fmt.{decimal, signed_decimal}
-use Rattle.std.proofs.lemmas.Bool.{ne_eqb}
 use Rattle.std.proofs.lemmas.Bool.Decides.{eqb_tells}
 use Rattle.st_base.specs.declared.tokens.TokenKind.{TokenKind}
 use Rattle.st_base.specs.declared.tokens.TokenKind.TheVariants as kind
-use Rattle.st_base.specs.TokenBytes.{is_letter, is_digit, is_word_byte, is_operator_byte, is_white_byte, begins}
+use Rattle.st_base.specs.TokenBytes.{is_letter, is_digit, is_word_byte, is_operator_byte, begins}
 use Rattle.st_base.specs.Lexed.{Lexeme, value_of}
 use Rattle.st_base.specs.Lexes.{is_identifier, is_run, AreKeywords, last_keyword, next_keyword, Inside, no_byte, other_byte, two_quotes}
-use Rattle.st_lexer.proofs.Runs.{and_left, and_right, is_run-all}
+use Rattle.st_lexer.proofs.Runs.{and_left, and_right}
 use Rattle.st_lexer.proofs.Sound.{is_inner}
-use Rattle.st_lexer.proofs.Selectors.{identifier_begins}
 use Rattle.st_lexer.proofs.Cover.{front_at}
-use Rattle.st_lexer.proofs.Spelled.{IsStop, at_end, at_blank, at_line, at_paren, at_block, at_semicolon, at_period, stop_begins, identifier-stop, keyword-stop, operator-stop, minus-front, integer-stop, character-front, string-stop, quoted-stop, symbol_word-stop, symbol_keywords-stop, symbol_operator-stop, array_open-front, paren_open-front, paren_close-front, block_open-front, block_close-front, colon-front, assign-front, caret-front, period-front, semicolon-front}
+use Rattle.st_lexer.proofs.Spelled.{IsStop, at_blank, at_line, at_paren, at_block, at_semicolon, at_period, stop_begins, identifier-stop, keyword-stop, operator-stop, minus-front, integer-stop, character-front, string-stop, quoted-stop, symbol_word-stop, symbol_keywords-stop, symbol_operator-stop, array_open-front, paren_open-front, paren_close-front, block_open-front, block_close-front, colon-front, assign-front, caret-front, period-front, semicolon-front}
 use Rattle.st_lexer.proofs.Decimals.{decimal-digits, value_of-decimal}
-use Rattle.sif_export.specs.Words.{quotes_doubled, quoted, goes_on_as_keywords, are_keywords, is_bare_symbol, Word, Mark, Named, Key, Operator, Parameter, Number, Char, Str, Symbol, Remark, Gap, Joined, Blank, Line, Sign, spell, spell_sign, closes, closes_sign, behind, behind_sign, gap_bytes, led, laid}
+use Rattle.sif_export.specs.Words.{quotes_doubled, quoted, goes_on_as_keywords, are_keywords, is_bare_symbol, Word, Mark, Named, Key, Operator, Parameter, Number, Char, Str, Symbol, Remark, Gap, Joined, Blank, Line, Sign, spell, spell_sign, closes, behind, behind_sign, gap_bytes, laid}
 use Rattle.sif_export.specs.declared.sign.Sign.TheVariants as sign
 use Rattle.sif_export.proofs.Shown.{Seen, Shows, shows_token, shows_white, shows_comment}
 
@@ -85,10 +83,10 @@ AreWell (w ∷ ws) = IsWell w × AreWell ws
 
 -- ---- the text of one word
 
-blank_joined : Blank ≢ Joined
+pub blank_joined : Blank ≢ Joined
 blank_joined e = cc
 
-line_joined : Line ≢ Joined
+pub line_joined : Line ≢ Joined
 line_joined e = cc
 
 pub inside : (t : List ℕ) → Inside (quotes_doubled t)
@@ -115,7 +113,7 @@ run_some p (c ∷ cs) is = omega arith
 key_some : (name : List ℕ) → 0 < length (name ++ 58 ∷ [])
 key_some name = omega (arith, length-append name (58 ∷ []))
 
-wide : (n : ℕ) → n ≤ 2 ^ 127 → n < 10 ^ 64
+pub wide : (n : ℕ) → n ≤ 2 ^ 127 → n < 10 ^ 64
 wide n low = omega (arith, low)
 
 integer-front : (n : ℕ) (b : List ℕ) → n ≤ 2 ^ 127 → IsStop b → front_at (decimal n ++ b) ≡ Lexeme (kind.Integer n) (length (decimal n))

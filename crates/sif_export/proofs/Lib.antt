@@ -3,3 +3,21 @@ pub mod LaidLemmas
 pub mod Steps
 pub mod Shown
 pub mod Lexing
+pub mod Built
+pub mod Exports
+pub mod ItemExports
+pub mod MessageParts
+pub mod ExprExports
+pub mod Opened
+pub mod TextTokens
+pub mod TextExports
+pub mod SeenHeaders
+pub mod ReadHeaders
+pub mod HeaderExports
+pub mod UnitExports
+pub mod Paths
+pub mod RoundTripLaw
+pub mod SameWords
+pub mod CanonicalLaw
+pub mod Readable
+mod Examples

@@ -1,15 +1,15 @@
 -- Parts of a text that are written one after the other, and quotes that are written twice.
-use Rattle.std.proofs.Common.{◌≡◌, ◌≢◌, ◌⊎◌, inl, inr, ◌==◌, ◌+◌, ◌<◌, ◌≤◌, ℕ, zero, suc, Bool, true, false, if◌then◌else◌, List, [], ◌∷◌, ◌++◌, take, drop, length, get_or, refl, ap, sym, ◌∙◌, arith, append_assoc, append-nil, subst, Option, Some, None, Result, Ok, Err}
+use Rattle.std.proofs.Common.{◌≡◌, ◌≢◌, inl, inr, ◌+◌, ◌<◌, ℕ, zero, suc, List, [], ◌∷◌, ◌++◌, take, drop, length, get_or, refl, ap, sym, ◌∙◌, arith, append-nil, subst, Option, Some, None, Result, Ok, Err}
 use Rattle.std.specs.Result.{OnOk, OnErr}
 use Rattle.std.specs.Io.KnownBytes.{append_known}
-use Rattle.std.proofs.lemmas.List.{take-append-drop, take_rest, drop-drop, length-drop, take_more, drop_more, get_or-drop}
+use Rattle.std.proofs.lemmas.List.{take-append-drop, take_more, drop_more, get_or-drop}
 use Rattle.std.proofs.lemmas.Bool.Decides.{eqb_tells}
 use Rattle.st_base.specs.Streams.{GainsPrefix}
 use Rattle.st_base.proofs.Known.{take-add, append_known-append}
 use Rattle.sif_chunks.specs.Split.{doubled}
 use Rattle.sif_chunks.specs.Writing.{closed, all_closed}
 use Rattle.sif_chunks.proofs.SplitLemmas.{eqb-not}
-use Rattle.sif_chunks.proofs.WriterLemmas.{doubled-append, gains_behind, gains_front}
+use Rattle.sif_chunks.proofs.WriterLemmas.{doubled-append, gains_behind}
 use Rattle.sif_export.specs.Words.{quotes_doubled, Gains, Puts}
 
 -- ---- what a call gained

@@ -1,6 +1,6 @@
 -- Tokens as they are seen, of bytes that stand behind others in a text.
-use Rattle.std.proofs.Common.{◌≡◌, ◌+◌, ◌-◌, ◌<◌, ◌≤◌, ℕ, suc, Bool, true, false, List, [], ◌∷◌, ◌++◌, take, drop, length, map, Option, None, Some, refl, ap, sym, ◌∙◌, subst, arith, append-nil, append_assoc, length-append}
-use Rattle.std.specs.Prelude.{nat_lt, not, ◌==◌}
+use Rattle.std.proofs.Common.{◌≡◌, ◌+◌, ◌-◌, ◌<◌, ℕ, suc, true, List, [], ◌∷◌, ◌++◌, take, drop, length, map, None, refl, ap, sym, ◌∙◌, arith, append_assoc, length-append}
+use Rattle.std.specs.Prelude.{nat_lt}
 use Rattle.std.specs.List.{list_all, prefix_len}
 use Rattle.std.proofs.lemmas.List.{drop_at}
 use Rattle.std.proofs.Math.Seq.{take-append_seam}
@@ -8,7 +8,6 @@ use Rattle.st_base.specs.declared.tokens.Token.{Token}
 use Rattle.st_base.specs.declared.tokens.TokenKind.{TokenKind}
 use Rattle.st_base.specs.TokenBytes.{is_white_byte}
 use Rattle.st_base.specs.Lexed.{Lexeme, Gap, lexed_at, front_of, comment_front, comment_len}
-use Rattle.st_lexer.proofs.Scanning.{behind_tokens}
 use Rattle.st_lexer.proofs.Runs.{prefix_len-whole}
 use Rattle.st_lexer.proofs.Sound.{is_inner}
 use Rattle.st_lexer.proofs.Cover.{front_at}

@@ -1,18 +1,16 @@
 -- Lists of words that grow at their end, and the words of one level of a tree.
 use Rattle.std.proofs.Common.{◌≡◌, ◌≢◌, ◌+◌, ◌<◌, ◌≤◌, take, drop, length, map, ℕ, zero, suc, Bool, true, false, if◌then◌else◌, List, [], ◌∷◌, ◌++◌, get_or, eqb, subst, ℤ, refl, ap, sym, ◌∙◌, append_assoc, arith, codes}
 use Rattle.std.proofs.lemmas.List.{append-nil, take_more, take-append-drop}
-use Rattle.st_tree.specs.declared.tree.Primary.TheFolds.{fold_out-Primary, fold_out-Statement, fold_out-Block, fold_out-Body, fold_out-Expr, fold_out-Message, fold_out-Operand, fold-roll-Primary, fold-roll-Statement, fold-Primary, fold-Statement}
+use Rattle.st_tree.specs.declared.tree.Primary.TheFolds.{fold_out-Block, fold_out-Body, fold_out-Expr, fold_out-Message, fold_out-Operand, fold-roll-Primary, fold-roll-Statement, fold-Primary, fold-Statement}
 use Rattle.st_tree.specs.declared.tree.Name.{Name}
 use Rattle.st_tree.specs.declared.tree.Literal.{Literal, fold-Literal, fold-roll-Literal}
 use Rattle.st_tree.specs.declared.tree.Literal.TheOpen.{Literal-F}
 use Rattle.st_tree.specs.declared.tree.Literal.TheVariants as literal
 use Rattle.st_tree.specs.declared.tree.Literal.TheVariants.{rolls-Array, rolls-Nil, rolls-True, rolls-False, rolls-Integer, rolls-Character, rolls-Str, rolls-Symbol}
-use Rattle.st_tree.specs.declared.tree.Primary.{Primary}
 use Rattle.st_tree.specs.declared.tree.Primary.TheOpen.{Primary-F, Statement-F}
 use Rattle.st_tree.specs.declared.tree.Primary.TheVariants as primary
 use Rattle.st_tree.specs.declared.tree.Primary.TheVariants.{rolls-Block, rolls-Paren, rolls-Variable, rolls-Literal, rolls-SelfValue, rolls-SuperValue}
 use Rattle.st_tree.specs.declared.tree.Primary.TheViews.{rolls-Value, rolls-Return}
-use Rattle.st_tree.specs.declared.tree.Statement.{Statement}
 use Rattle.st_tree.specs.declared.tree.Statement.TheVariants.{Value, Return}
 use Rattle.st_tree.specs.declared.tree.Block.{Block, out-Block}
 use Rattle.st_tree.specs.declared.tree.Body.{Body, out-Body}
@@ -29,7 +27,7 @@ use Rattle.sif_export.specs.Words.{Word, Mark, Named, Key, Operator, Parameter, 
 use Rattle.sif_export.proofs.PieceLemmas.{quotes_doubled-append}
 use Rattle.sif_export.specs.ExportText.{keyed, spaced, spaced_behind, way_name, list_words, class_words, annotation_words, annotation_text, body_text, is_empty_body, unit_texts, element_texts}
 use Rattle.sif_export.specs.declared.sign.Sign.TheVariants as sign
-use Rattle.sif_export.specs.TreeWords.{Words, joined, each_behind, parted, literal_step, literal_words, first_part, other_parts, part_word, sent_words, message_words, target_words, named_words, colon_words, temporary_words, parameter_words, body_words, body_parts, inner_words, at_primary, at_statement, at_block, at_body, at_expr, at_message, at_operand, primary_words, statement_words, block_words, expr_words, each_message, operand_words, name_words, pattern_words, top_words}
+use Rattle.sif_export.specs.TreeWords.{Words, joined, each_behind, parted, literal_step, literal_words, first_part, other_parts, part_word, sent_words, message_words, target_words, named_words, colon_words, temporary_words, parameter_words, body_parts, inner_words, at_primary, at_statement, at_block, at_body, at_expr, at_message, at_operand, primary_words, statement_words, block_words, expr_words, each_message, operand_words, name_words, pattern_words, top_words}
 
 pub operand_out : (o : Operand) → operand_words o ≡ primary_words (out-Operand o).primary ++ joined (map each_message (out-Operand o).chain)
 unfolding operand_words primary_words each_message

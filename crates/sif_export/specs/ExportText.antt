@@ -10,7 +10,7 @@ use Rattle.st_tree.specs.declared.units.UnitKind.{UnitKind}
 use Rattle.st_tree.specs.declared.units.UnitKind.TheVariants as kinds
 use Rattle.st_tree.specs.declared.units.Annotation.{Annotation}
 use Rattle.st_tree.specs.declared.units.Unit.{Unit}
-use Rattle.sif_export.specs.Words.{Word, Named, Key, Str, Symbol, Remark, Joined, Line, laid}
+use Rattle.sif_export.specs.Words.{Named, Key, Str, Symbol, Remark, Joined, Line, laid}
 use Rattle.sif_export.specs.TreeWords.{Words, pattern_words, top_words}
 
 -- ---- headers

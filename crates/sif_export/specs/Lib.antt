@@ -1,3 +1,5 @@
 pub mod Words
 pub mod TreeWords
 pub mod ExportText
+pub mod RoundTrip
+pub mod Canonical

@@ -1,5 +1,5 @@
 -- The words of literals, expressions, bodies and methods (ANSI NCITS 319, 3.4).
-use Rattle.std.specs.Prelude.{ℕ, List, [], ◌∷◌, ◌++◌, map, Bool, true, false, if◌then◌else◌, ◌==◌, codes}
+use Rattle.std.specs.Prelude.{ℕ, List, [], ◌∷◌, ◌++◌, map, if◌then◌else◌, ◌==◌, codes}
 use Rattle.st_tree.specs.declared.tree.Name.{Name}
 use Rattle.st_tree.specs.declared.tree.Literal.{Literal, fold-Literal}
 use Rattle.st_tree.specs.declared.tree.Literal.TheOpen.{Literal-F}

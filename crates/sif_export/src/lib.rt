@@ -3,11 +3,15 @@
 #![tactic(auto)]
 
 mod elements;
+mod law;
 mod pieces;
 mod sign;
 mod symbols;
+#[cfg(test)]
+mod tests;
 mod trees;
 mod units;
 mod words;
 
+pub use law::{a_text_is_read_as_its_program, texts_are_canonical, what_is_read_is_readable};
 pub use units::export;

@@ -22,4 +22,3 @@ pub returns-clause-text : goal.returns-clause-text
 returns-clause-text g c =
     let a = c.args.annotation.now in
     lays_as _ _ _ _ _ _ (lays_more _ _ _ _ _ _ (Named (codes "Annotation") ∷ keyed (codes "key:") c.as_bytes.result.now) (keyed (codes "value:") c.as_bytes-2.result.now) (done_more _ _ _ _ _ _ (Named (codes "Annotation") ∷ []) (keyed (codes "key:") c.as_bytes.result.now) (c.in_ok-gap.ensures.text (Named (codes "Annotation")) (refl, refl, refl)) c.in_ok-gap-2.ensures.text) c.key_and_string-2.ensures.text) (annotation_words-of a _ _ c.as_bytes.ensures c.as_bytes-2.ensures)
-

@@ -19,4 +19,3 @@ returns-in_err-top-clause-text g c =
 pub returns-clause-text : goal.returns-clause-text
 returns-clause-text g c =
     gains_as _ _ _ _ _ (lays_closed _ _ _ _ _ _ _ c.in_ok-top.ensures.text (gains_of _ _ _ _ c.close.ensures.all c.close.ensures.part)) (ap closed (body_text-some c.args.body.now c.if-is_empty.ensures))
-

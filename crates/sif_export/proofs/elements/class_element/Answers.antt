@@ -14,4 +14,3 @@ pub returns-clause-text : goal.returns-clause-text
 unfolding class_text
 returns-clause-text g c =
     lays_closed _ _ _ _ _ _ _ c.in_ok-class_words.ensures.text (gains_of _ _ _ _ c.close.ensures.all c.close.ensures.part)
-

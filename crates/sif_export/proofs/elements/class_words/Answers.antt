@@ -40,4 +40,3 @@ pub returns-clause-text : goal.returns-clause-text
 returns-clause-text g c =
     let u = c.args.class.now in
     lays_as _ _ _ _ _ _ (lays_more _ _ _ _ _ _ (Named (codes "Class") ∷ keyed (codes "named:") c.as_bytes.result.now ++ (keyed (codes "superclass:") c.as_bytes-2.result.now ++ Key (codes "indexedInstanceVariables:") ∷ Symbol c.way_name.result.now ∷ [])) (list_words u) (done_more _ _ _ _ _ _ (Named (codes "Class") ∷ keyed (codes "named:") c.as_bytes.result.now ++ (keyed (codes "superclass:") c.as_bytes-2.result.now ++ Key (codes "indexedInstanceVariables:") ∷ [])) (Symbol c.way_name.result.now ∷ []) (done_more _ _ _ _ _ _ (Named (codes "Class") ∷ keyed (codes "named:") c.as_bytes.result.now ++ keyed (codes "superclass:") c.as_bytes-2.result.now) (Key (codes "indexedInstanceVariables:") ∷ []) (done_more _ _ _ _ _ _ (Named (codes "Class") ∷ keyed (codes "named:") c.as_bytes.result.now) (keyed (codes "superclass:") c.as_bytes-2.result.now) (done_more _ _ _ _ _ _ (Named (codes "Class") ∷ []) (keyed (codes "named:") c.as_bytes.result.now) (c.in_ok-gap.ensures.text (Named (codes "Class")) (refl, refl, refl)) c.in_ok-gap-2.ensures.text) c.in_ok-gap-3.ensures.text) (c.in_ok-gap-4.ensures.text (Key (codes "indexedInstanceVariables:")) (refl, refl, refl))) c.in_ok-gap-5.ensures.text) c.lists.ensures.text) (class_words-of u _ _ _ c.as_bytes.ensures c.as_bytes-2.ensures c.way_name.ensures)
-

@@ -14,4 +14,3 @@ pub returns-clause-text : goal.returns-clause-text
 unfolding comment_text
 returns-clause-text g c =
     lays_closed _ _ _ _ _ _ _ c.in_ok-remarks.ensures.text (gains_of _ _ _ _ c.close.ensures.all c.close.ensures.part)
-

@@ -13,4 +13,3 @@ returns-in_err-gap-clause-text g c =
 pub returns-clause-text : goal.returns-clause-text
 returns-clause-text g c =
     lays_more _ _ _ _ _ _ (Key c.args.key.now ∷ []) (Str (spaced c.args.names.now) ∷ []) (c.in_ok-gap.ensures.text (Key c.args.key.now) (refl, refl, refl)) c.names_word.ensures.text
-

@@ -1,7 +1,6 @@
 use Rattle.std.proofs.Common.{[], ◌∷◌, refl}
 use Rattle.std.proofs.lemmas.Result.{err_from_is_err_and}
 use Rattle.sif_export.specs.Words.{Key, Str}
-use Rattle.sif_export.specs.ExportText.{spaced}
 use Rattle.sif_export.proofs.LaidLemmas.{done_none, lays_more, stopped}
 use Rattle.sif_export.proofs.elements.key_and_string.Goals as goal
 
@@ -13,4 +12,3 @@ returns-in_err-gap-clause-text g c =
 pub returns-clause-text : goal.returns-clause-text
 returns-clause-text g c =
     lays_more _ _ _ _ _ _ (Key c.args.key.now ∷ []) (Str c.args.text.now ∷ []) (c.in_ok-gap.ensures.text (Key c.args.key.now) (refl, refl, refl)) (c.quoted_word.ensures.text (Str c.args.text.now) (refl, refl, refl))
-

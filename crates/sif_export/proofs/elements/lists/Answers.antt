@@ -26,4 +26,3 @@ pub returns-clause-text : goal.returns-clause-text
 returns-clause-text g c =
     let u = c.args.class.now in
     lays_more _ _ _ _ _ _ (keyed (codes "instanceVariableNames:") (spaced u.instance_names) ++ (keyed (codes "classVariableNames:") (spaced u.class_names) ++ keyed (codes "sharedPools:") (spaced u.pools))) (keyed (codes "classInstanceVariableNames:") (spaced u.class_instance_names)) (done_then _ _ _ _ _ _ _ _ (keyed (codes "instanceVariableNames:") (spaced u.instance_names)) (keyed (codes "classVariableNames:") (spaced u.class_names)) (keyed (codes "sharedPools:") (spaced u.pools)) c.in_ok-gap.ensures.text c.in_ok-gap-2.ensures.text c.in_ok-gap-3.ensures.text) c.key_and_names-4.ensures.text
-

@@ -1,4 +1,4 @@
-use Rattle.std.proofs.Common.{◌++◌, ◌∷◌, [], ℕ, List, refl, ap, sym, append-nil}
+use Rattle.std.proofs.Common.{◌++◌, [], ℕ, List, refl, ap, sym, append-nil}
 use Rattle.std.proofs.lemmas.Result.{err_from_is_err_and}
 use Rattle.sif_chunks.specs.Split.{doubled}
 use Rattle.sif_chunks.specs.Writing.{closing}
@@ -28,4 +28,3 @@ unfolding method_text
 returns-clause-text g c =
     let m = c.args.method.now in
     gains_then _ _ _ _ (doubled (method_text m)) closing (written_then _ _ _ (laid Joined (pattern_words m)) (laid Line (top_words m.body)) c.in_ok-pattern.ensures.text.written c.in_ok-top.ensures.text.written) (gains_of _ _ _ _ c.close.ensures.all c.close.ensures.part)
-

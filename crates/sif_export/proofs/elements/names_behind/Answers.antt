@@ -1,4 +1,4 @@
-use Rattle.std.proofs.Common.{rules, ◌≡◌, ◌∙◌, refl, ap, sym, take, drop, ◌+◌, ◌++◌, ◌∷◌, [], arith, length, List, ℕ, append_assoc}
+use Rattle.std.proofs.Common.{rules, ◌∙◌, refl, ap, sym, take, drop, ◌+◌, ◌++◌, ◌∷◌, [], arith, List, ℕ, append_assoc}
 use Rattle.std.proofs.lemmas.Result.{err_from_is_err_and}
 use Rattle.std.specs.Io.KnownBytes.{append_known}
 use Rattle.sif_chunks.specs.Split.{doubled}

@@ -1,4 +1,4 @@
-use Rattle.std.proofs.Common.{◌++◌, [], ◌∷◌, refl, ap, sym, append_assoc}
+use Rattle.std.proofs.Common.{◌++◌, [], ◌∷◌, refl, sym, append_assoc}
 use Rattle.std.proofs.lemmas.Result.{err_from_is_err_and}
 use Rattle.sif_export.specs.Words.{Str, gap_bytes, quotes_doubled}
 use Rattle.sif_export.specs.ExportText.{spaced}
@@ -23,4 +23,3 @@ returns-in_err-piece-clause-text g c =
 pub returns-clause-text : goal.returns-clause-text
 returns-clause-text g c =
     word_of_three c.args.gap _ _ _ _ (Str (spaced c.args.names.now)) (39 ∷ []) (quotes_doubled (spaced c.args.names.now)) (39 ∷ []) (refl, refl, refl) (rw c.bytes.ensures at c.in_ok-two_pieces.ensures.text) (rw c.as_slice.ensures at c.in_ok-spaced_names.ensures.text) c.in_ok-piece.ensures.text
-

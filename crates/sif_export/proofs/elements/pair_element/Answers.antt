@@ -22,4 +22,3 @@ pub returns-clause-text : goal.returns-clause-text
 unfolding pair_text
 returns-clause-text g c =
     lays_closed _ _ _ _ _ _ _ (done_more _ _ _ _ _ _ (Named c.args.first.now ∷ []) (Named c.args.second.now ∷ []) (c.in_ok-gap.ensures.text (Named c.args.first.now) (refl, refl, refl)) (c.in_ok-word.ensures.text (Named c.args.second.now) (refl, refl, refl))) (gains_of _ _ _ _ c.close.ensures.all c.close.ensures.part)
-

@@ -2,7 +2,7 @@ use Rattle.std.proofs.Common.{rules, ◌≡◌, ◌∙◌, ◌++◌, refl, ap, s
 use Rattle.std.proofs.lemmas.List.{take_rest, drop-drop, length-drop}
 use Rattle.std.proofs.lemmas.Result.{err_from_is_err_and}
 use Rattle.sif_export.specs.Words.{Named}
-use Rattle.sif_export.specs.TreeWords.{sent_words, name_words, first_part, other_parts, part_word, pattern_words}
+use Rattle.sif_export.specs.TreeWords.{sent_words, name_words, first_part, other_parts, part_word}
 use Rattle.sif_export.proofs.LaidLemmas.{done_none, done_then, done_as, lays_as, stopped, stopped_then}
 use Rattle.sif_export.proofs.Steps.{sent_cut, sent_more, others_more, part_spelled, spelled_as, whole_list, whole_pattern, plain_pattern, others}
 use Rattle.sif_export.proofs.elements.pattern.Goals as goal

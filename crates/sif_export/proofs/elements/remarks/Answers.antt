@@ -1,9 +1,9 @@
-use Rattle.std.proofs.Common.{rules, ◌≡◌, ◌∙◌, refl, ap, sym, take, drop, map, ◌+◌, ◌++◌, ◌∷◌, [], arith, length}
+use Rattle.std.proofs.Common.{rules, ◌∙◌, refl, ap, sym, take, drop, map, ◌+◌, ◌++◌, ◌∷◌, [], arith}
 use Rattle.std.proofs.lemmas.List.{map-append}
 use Rattle.std.proofs.lemmas.Result.{err_from_is_err_and}
 use Rattle.sif_export.specs.Words.{Remark}
 use Rattle.sif_export.proofs.LaidLemmas.{done_none, done_more, done_as, stopped}
-use Rattle.sif_export.proofs.Steps.{item_more, item_cut, whole_list}
+use Rattle.sif_export.proofs.Steps.{item_more, item_cut}
 use Rattle.sif_export.proofs.elements.remarks.Goals as goal
 
 pub loop-comment-init : goal.loop-comment-init

@@ -22,4 +22,3 @@ pub returns-clause-text : goal.returns-clause-text
 unfolding string_text
 returns-clause-text g c =
     lays_closed _ _ _ _ _ _ _ (done_more _ _ _ _ _ _ (Named c.args.first.now ∷ []) (keyed c.args.key.now c.args.text.now) (c.in_ok-gap.ensures.text (Named c.args.first.now) (refl, refl, refl)) c.in_ok-key_and_string.ensures.text) (gains_of _ _ _ _ c.close.ensures.all c.close.ensures.part)
-

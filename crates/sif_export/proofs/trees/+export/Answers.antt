@@ -1,4 +1,4 @@
-use Rattle.std.proofs.Common.{rules, ◌≡◌, ◌∙◌, ◌++◌, refl, ap, sym, take, drop, map, ◌+◌, ◌-◌, ◌∷◌, [], arith, ◌≤◌, length, List, ℕ, true≢false, append_assoc, if◌then◌else◌, subst}
+use Rattle.std.proofs.Common.{rules, ◌≡◌, ◌∙◌, ◌++◌, refl, ap, sym, take, drop, map, ◌+◌, ◌-◌, ◌∷◌, [], arith, ◌≤◌, length, List, true≢false, append_assoc, if◌then◌else◌}
 use Rattle.std.proofs.lemmas.List.{append-nil, take_rest, drop-drop, length-drop}
 use Rattle.std.proofs.lemmas.Result.{err_from_is_err_and}
 use Rattle.st_tree.specs.declared.tree.Block.{out-Block}
@@ -8,9 +8,9 @@ use Rattle.st_tree.specs.declared.tree.Message.{out-Message}
 use Rattle.st_tree.specs.declared.tree.Operand.{out-Operand}
 use Rattle.sif_export.specs.Words.{Word, Named, Mark}
 use Rattle.sif_export.specs.declared.sign.Sign.TheVariants as sign
-use Rattle.sif_export.specs.TreeWords.{primary_words, statement_words, block_words, body_parts, expr_words, each_message, operand_words, literal_words, target_words, temporary_words, parameter_words, joined, each_behind, parted, sent_words, message_words, first_part, other_parts, part_word}
+use Rattle.sif_export.specs.TreeWords.{primary_words, statement_words, body_parts, expr_words, each_message, operand_words, target_words, temporary_words, parameter_words, joined, each_behind, parted, sent_words, message_words, first_part, other_parts, part_word}
 use Rattle.sif_export.proofs.LaidLemmas.{done_none, done_more, done_then, done_as, lays_as, lays_more, stopped, stopped_then}
-use Rattle.sif_export.proofs.Steps.{operand_out, expr_out, message_out, block_out, parts_out, block_in, paren_in, variable_in, literal_in, self_in, super_in, value_in, return_in, joined_cut, joined_more, behind_cut, behind_more, sent_cut, sent_more, others_more, in_place, part_spelled, spelled_as, sent_message, has_more, parted_cut, parted_more, whole_list, whole_message, others, has}
+use Rattle.sif_export.proofs.Steps.{operand_out, expr_out, message_out, block_out, parts_out, block_in, paren_in, variable_in, literal_in, self_in, super_in, value_in, return_in, joined_cut, joined_more, behind_cut, behind_more, sent_cut, sent_more, others_more, in_place, part_spelled, spelled_as, has_more, parted_cut, parted_more, whole_list, whole_message, others}
 use Rattle.sif_export.proofs.trees.+export.Goals as goal
 
 -- a primary

@@ -1,4 +1,4 @@
-use Rattle.std.proofs.Common.{◌≡◌, ◌≤◌, ◌++◌, take, drop, map, length, ◌∷◌}
+use Rattle.std.proofs.Common.{◌≡◌, ◌≤◌, ◌++◌, take, drop, map, length}
 use Rattle.st_tree.specs.declared.tree.Operand.{out-Operand}
 use Rattle.st_tree.specs.declared.tree.Expr.{out-Expr}
 use Rattle.st_tree.specs.declared.tree.Body.{out-Body}

@@ -1,6 +1,5 @@
-use Rattle.std.proofs.Common.{to_z-of_z, to_z, of_z, rules, ◌≡◌, ◌∙◌, ◌++◌, refl, ap, sym, take, drop, map, ◌+◌, ◌∷◌, [], arith, length, List}
+use Rattle.std.proofs.Common.{to_z-of_z, to_z, of_z, rules, ◌≡◌, ◌∙◌, ◌++◌, refl, ap, sym, take, drop, map, ◌+◌, ◌∷◌, [], arith, List}
 use Rattle.std.specs.Int.{w128}
-use Rattle.std.proofs.lemmas.List.{append-nil}
 use Rattle.std.proofs.lemmas.Result.{err_from_is_err_and}
 use Rattle.sif_export.specs.Words.{quoted, Word, Named, Mark, Char, Str, Symbol, Number}
 use Rattle.sif_export.specs.declared.sign.Sign.TheVariants as sign

@@ -1,4 +1,4 @@
-use Rattle.std.proofs.Common.{rules, ◌≡◌, ◌∙◌, refl, ap, sym, take, drop, ◌+◌, ◌∷◌, [], arith, length}
+use Rattle.std.proofs.Common.{rules, ◌∙◌, refl, ap, sym, take, drop, ◌+◌, ◌∷◌, [], arith}
 use Rattle.std.proofs.lemmas.Result.{err_from_is_err_and}
 use Rattle.sif_export.specs.Words.{Parameter}
 use Rattle.sif_export.specs.TreeWords.{colon_words}

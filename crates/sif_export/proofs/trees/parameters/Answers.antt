@@ -1,4 +1,4 @@
-use Rattle.std.proofs.Common.{rules, ◌≡◌, ◌∙◌, ◌++◌, refl, ap, sym, ◌∷◌, [], true≢false}
+use Rattle.std.proofs.Common.{refl, ap, sym, ◌∷◌, [], true≢false}
 use Rattle.std.proofs.lemmas.Result.{err_from_is_err_and}
 use Rattle.sif_export.specs.Words.{Mark}
 use Rattle.sif_export.specs.declared.sign.Sign.TheVariants as sign

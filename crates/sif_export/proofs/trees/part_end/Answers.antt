@@ -1,4 +1,4 @@
-use Rattle.std.proofs.Common.{rules, ◌≡◌, refl, arith, subst, take, drop, suc, ◌+◌}
+use Rattle.std.proofs.Common.{◌≡◌, arith, subst, take, drop, suc, ◌+◌}
 use Rattle.sif_export.specs.TreeWords.{first_part, other_parts}
 use Rattle.sif_export.proofs.Steps.{first_part-take, other_parts-drop, first_part-none, other_parts-none}
 use Rattle.sif_export.proofs.trees.part_end.Goals as goal

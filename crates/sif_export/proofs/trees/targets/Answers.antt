@@ -1,9 +1,9 @@
-use Rattle.std.proofs.Common.{rules, ◌≡◌, ◌∙◌, refl, ap, sym, take, drop, ◌+◌, ◌∷◌, [], arith, length}
+use Rattle.std.proofs.Common.{rules, ◌∙◌, refl, ap, sym, take, drop, ◌+◌, ◌∷◌, [], arith}
 use Rattle.std.proofs.lemmas.Result.{err_from_is_err_and}
 use Rattle.sif_export.specs.Words.{Named, Mark}
 use Rattle.sif_export.specs.declared.sign.Sign.TheVariants as sign
 use Rattle.sif_export.specs.TreeWords.{target_words}
-use Rattle.sif_export.proofs.LaidLemmas.{done_none, done_more, done_as, stopped, done_then, stopped_then}
+use Rattle.sif_export.proofs.LaidLemmas.{done_none, done_as, stopped, done_then, stopped_then}
 use Rattle.sif_export.proofs.Steps.{item_more, item_cut, target_words-append}
 use Rattle.sif_export.proofs.trees.targets.Goals as goal
 

@@ -1,8 +1,8 @@
-use Rattle.std.proofs.Common.{rules, ◌≡◌, ◌∙◌, refl, ap, sym, take, drop, ◌+◌, ◌++◌, ◌∷◌, [], arith, length, List, ℕ, map}
+use Rattle.std.proofs.Common.{rules, ◌∙◌, refl, ap, sym, take, drop, ◌+◌, arith, map}
 use Rattle.std.proofs.lemmas.Result.{err_from_is_err_and}
 use Rattle.std.specs.Io.KnownBytes.{append_known}
 use Rattle.sif_chunks.specs.Writing.{closed, all_closed}
-use Rattle.sif_export.specs.ExportText.{annotation_text, unit_texts, element_texts}
+use Rattle.sif_export.specs.ExportText.{annotation_text}
 use Rattle.sif_export.proofs.PieceLemmas.{started, gains_stop, gained_then}
 use Rattle.sif_export.proofs.Steps.{annotations_cut, annotations_more}
 use Rattle.sif_export.proofs.units.annotations.Goals as goal

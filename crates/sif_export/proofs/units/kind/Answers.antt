@@ -1,4 +1,4 @@
-use Rattle.std.proofs.Common.{rules, ◌≡◌, ◌∙◌, refl, ap, sym, ◌∷◌, [], codes, List, ℕ}
+use Rattle.std.proofs.Common.{◌∙◌, ap, sym, ◌∷◌, [], codes, List, ℕ}
 use Rattle.std.proofs.lemmas.Result.{err_from_is_err_and}
 use Rattle.sif_export.specs.ExportText.{kind_texts, string_text, pair_text, class_text, comment_text, body_text, method_text}
 use Rattle.sif_export.proofs.PieceLemmas.{gains_one, first_fails, gains_two}
@@ -80,4 +80,3 @@ returns-in_err-pair_element-in-ClassMethod-clause-text g c =
 pub returns-in_ok-pair_element-in-ClassMethod-clause-text : goal.returns-in_ok-pair_element-in-ClassMethod-clause-text
 returns-in_ok-pair_element-in-ClassMethod-clause-text g c =
     gains_two _ _ _ _ (pair_text c.as_bytes-in-ClassMethod.result.now (codes "classMethod")) (method_text c.in-ClassMethod.method) _ c.in_ok-pair_element-in-ClassMethod.ensures.text c.method_element-in-ClassMethod.ensures.text (ap kind_texts c.in-ClassMethod.is ∙ ap (λ (t : List ℕ). pair_text t (codes "classMethod") ∷ method_text c.in-ClassMethod.method ∷ []) (sym c.as_bytes-in-ClassMethod.ensures))
-

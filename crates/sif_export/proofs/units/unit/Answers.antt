@@ -1,4 +1,4 @@
-use Rattle.std.proofs.Common.{[], map, ap, ◌∙◌}
+use Rattle.std.proofs.Common.{[], map}
 use Rattle.std.proofs.lemmas.Result.{err_from_is_err_and}
 use Rattle.sif_chunks.specs.Writing.{all_closed}
 use Rattle.sif_export.specs.ExportText.{kind_texts, annotation_text}
@@ -16,4 +16,3 @@ pub returns-clause-text : goal.returns-clause-text
 returns-clause-text g c =
     let u = c.args.unit.now in
     gains_as _ _ _ _ _ (gains_then _ _ _ _ (all_closed (kind_texts u.kind)) (all_closed (map annotation_text u.annotations)) c.in_ok-kind.ensures.text c.annotations.ensures.text) (all_closed-append (kind_texts u.kind) (map annotation_text u.annotations))
-

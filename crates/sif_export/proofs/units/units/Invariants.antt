@@ -1,4 +1,4 @@
-use Rattle.std.proofs.Common.{◌≡◌, take, map}
+use Rattle.std.proofs.Common.{◌≡◌, take}
 use Rattle.std.specs.Io.KnownBytes.{append_known}
 use Rattle.sif_chunks.specs.Writing.{all_closed}
 use Rattle.sif_export.specs.ExportText.{element_texts}

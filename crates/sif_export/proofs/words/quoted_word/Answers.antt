@@ -1,4 +1,4 @@
-use Rattle.std.proofs.Common.{rules, ◌≡◌, ◌++◌, [], refl, ap, sym, append_assoc}
+use Rattle.std.proofs.Common.{◌++◌, sym, append_assoc}
 use Rattle.std.proofs.lemmas.Result.{err_from_is_err_and}
 use Rattle.sif_export.specs.Words.{quoted, gap_bytes}
 use Rattle.sif_export.proofs.LaidLemmas.{word_first_fails, word_last_fails, word_written}

@@ -17,4 +17,3 @@ returns-in_err-two_pieces-2-clause-text g c =
 pub returns-clause-text : goal.returns-clause-text
 returns-clause-text g c =
     word_written c.args.gap _ _ _ (Remark c.args.text.now) (34 ∷ []) (c.args.text.now ++ 34 ∷ []) (refl, refl, refl) (rw c.bytes.ensures at c.in_ok-two_pieces.ensures.text) c.in_ok-two_pieces-2.ensures.text
-
