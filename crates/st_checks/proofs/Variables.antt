@@ -9,8 +9,8 @@ use Rattle.std.specs.Str.{bytes_eq}
 use Rattle.st_tree.specs.declared.tree.Name.{Name}
 use Rattle.st_checks.specs.Declarations.{Text}
 use Rattle.st_checks.specs.Bodies.{Scope}
-use Rattle.st_checks.specs.Meanings.{Meaning, declares, in_scope, in_scopes, or_else, fixed_if, assignable_if}
-use Rattle.st_checks.specs.NameSets.{Bytes, same_bytes, option_if, variable_in, of_variable, HasVariables, Gains, AreSeen}
+use Rattle.st_checks.specs.Meanings.{declares, in_scope, in_scopes, or_else, fixed_if, assignable_if}
+use Rattle.st_checks.specs.NameSets.{Bytes, same_bytes, option_if, variable_in, of_variable, Gains, AreSeen}
 use Rattle.st_checks.specs.StaticRules.{least, repeated_from}
 use Rattle.st_checks.specs.Views.{lesser_of}
 use Rattle.st_checks.specs.declared.scopes.Variable.{Variable}

@@ -1,5 +1,5 @@
 -- A walk over a body, a part at a time.
-use Rattle.std.proofs.Common.{◌≡◌, ◌+◌, ◌<◌, ◌≤◌, ℕ, Bool, true, false, cond, ◌&&◌, List, [], ◌∷◌, ◌++◌, length, get_or, take, drop, map, Option, None, Some, ◌⊎◌, inl, inr, refl, ap, sym, ◌∙◌, append_assoc, append-nil}
+use Rattle.std.proofs.Common.{◌≡◌, ◌+◌, ◌<◌, ◌≤◌, ℕ, Bool, true, false, cond, ◌&&◌, List, [], ◌∷◌, ◌++◌, length, get_or, take, map, Option, None, Some, ◌⊎◌, inl, inr, refl, ap, sym, ◌∙◌, append_assoc, append-nil}
 use Rattle.std.proofs.lemmas.List.{take_more, take_all, map_push}
 use Rattle.st_tree.specs.declared.tree.Name.{Name}
 use Rattle.st_tree.specs.declared.tree.Body.{Body}
@@ -17,7 +17,7 @@ use Rattle.st_checks.specs.declared.bodies.BodyFaults.{BodyFaults}
 use Rattle.st_checks.specs.declared.meaning.Meaning.{Meaning as Meant}
 use Rattle.st_checks.specs.declared.meaning.Meaning.TheVariants as meants
 use Rattle.st_checks.specs.declared.bodies.Walk.{Walk}
-use Rattle.st_checks.proofs.Leasts.{least-append, least-cons, lesser_of-assoc, lesser_of-none}
+use Rattle.st_checks.proofs.Leasts.{least-append, lesser_of-assoc, lesser_of-none}
 
 -- ---- the faults of two parts
 
