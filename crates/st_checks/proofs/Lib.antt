@@ -9,6 +9,7 @@ pub mod ClassLists
 pub mod UnitFaults
 pub mod FirstBreaks
 pub mod Members
+pub mod FirstLaw
 pub mod Leasts
 pub mod Repeats
 pub mod Variables

@@ -15,7 +15,7 @@ abbrev pub seen_after : List Text → List Name → List Text
 seen_after seen [] = seen
 seen_after seen (n ∷ names) = seen_after (n.text ∷ seen) names
 
-if-append : (b : Bool) (x : ℕ) (xs ys zs : List ℕ) → zs ≡ xs ++ ys → cond b (x ∷ zs) zs ≡ cond b (x ∷ xs) xs ++ ys
+pub if-append : (b : Bool) (x : ℕ) (xs ys zs : List ℕ) → zs ≡ xs ++ ys → cond b (x ∷ zs) zs ≡ cond b (x ∷ xs) xs ++ ys
 if-append true x xs ys zs e = ap (λ (l : List ℕ). x ∷ l) e
 if-append false x xs ys zs e = e
 
@@ -23,7 +23,7 @@ pub repeated_from-append : (seen : List Text) (a b : List Name) → repeated_fro
 repeated_from-append seen [] b = refl
 repeated_from-append seen (n ∷ a) b = if-append (list_any (bytes_eq n.text) seen) n.at (repeated_from (n.text ∷ seen) a) (repeated_from (seen_after (n.text ∷ seen) a) b) (repeated_from (n.text ∷ seen) (a ++ b)) (repeated_from-append (n.text ∷ seen) a b)
 
-or-false : (b : Bool) → (b || false) ≡ b
+pub or-false : (b : Bool) → (b || false) ≡ b
 or-false true = refl
 or-false false = refl
 
@@ -45,9 +45,3 @@ any-push t texts u = list_any-append (bytes_eq t) texts (u ∷ []) ∙ ap (λ (b
 
 pub bytes_eq-is : (a b : Text) → bytes_eq a b ≡ true → a ≡ b
 bytes_eq-is a b h = (bytes_eq-Decides a b).0 h
-
-pub bytes_eq-refl : (a : Text) → bytes_eq a a ≡ true
-bytes_eq-refl a = (bytes_eq-Decides a a).1 refl
-
-pub bytes_eq-sym : (a b : Text) → bytes_eq a b ≡ bytes_eq b a
-bytes_eq-sym a b = same_from_decides (bytes_eq a b) (bytes_eq b a) (bytes_eq-Decides a b) (λ h. sym ((bytes_eq-Decides b a).0 h), λ e. (bytes_eq-Decides b a).1 (sym e))

@@ -10,6 +10,7 @@ mod broken;
 mod built_in;
 mod classes;
 mod key;
+pub mod law;
 mod line;
 mod lists;
 mod meaning;
