@@ -4,7 +4,6 @@ use Rattle.std.specs.List.{list_any}
 use Rattle.std.specs.Str.{bytes_eq}
 use Rattle.std.proofs.lemmas.List.Folds.{list_any-append}
 use Rattle.std.proofs.lemmas.Slice.Eq.{bytes_eq-Decides}
-use Rattle.std.proofs.lemmas.Bool.Decides.{same_from_decides}
 use Rattle.st_tree.specs.declared.tree.Name.{Name}
 use Rattle.st_checks.specs.Declarations.{Text}
 use Rattle.st_checks.specs.Meanings.{declares}
