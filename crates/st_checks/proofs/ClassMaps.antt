@@ -14,11 +14,8 @@ use Rattle.st_tree.specs.declared.units.UnitKind.TheVariants as kinds
 use Rattle.st_tree.specs.declared.units.Unit.{Unit as FileUnit}
 use Rattle.st_checks.specs.Declarations.{Text, declares_class, class_of_unit}
 use Rattle.st_checks.specs.NameSets.{Bytes, same_bytes, IsSetOf, HasClasses, GainsClass, class_if_named}
-use Rattle.st_checks.proofs.Repeats.{any-push, bytes_eq-is, bytes_eq-sym}
-
-or-false : (b : Bool) → (b || false) ≡ b
-or-false true = refl
-or-false false = refl
+use Rattle.st_checks.proofs.Repeats.{any-push, bytes_eq-is, or-false}
+use Rattle.st_checks.proofs.NameLists.{bytes_eq-sym}
 
 absorb : (l e : Bool) → (e ≡ true → l ≡ true) → l ≡ (l || e)
 absorb true e h = refl

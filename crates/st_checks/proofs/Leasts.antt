@@ -1,5 +1,5 @@
 -- The lesser of two places, and the least of a list.
-use Rattle.std.proofs.Common.{◌≡◌, ℕ, List, [], ◌∷◌, ◌++◌, Option, None, Some, min, refl, ap, sym, ◌∙◌, arith}
+use Rattle.std.proofs.Common.{◌≡◌, ℕ, Bool, true, false, cond, List, [], ◌∷◌, ◌++◌, Option, None, Some, min, refl, ap, sym, ◌∙◌, arith}
 use Rattle.st_checks.specs.StaticRules.{least}
 use Rattle.st_checks.specs.Views.{lesser_of}
 
@@ -34,3 +34,13 @@ least-append (x ∷ xs) ys =
     ∙ ap (lesser_of (Some x)) (least-append xs ys)
     ∙ lesser_of-assoc (Some x) (least xs) (least ys)
     ∙ ap (λ (o : Option ℕ). lesser_of o (least ys)) (sym (least-cons x xs))
+
+-- ---- a place that counts where a test holds
+
+abbrev pub place_if : Bool → ℕ → Option ℕ
+place_if true n = Some n
+place_if false n = None
+
+pub least-if : (b : Bool) (n : ℕ) → least (cond b (n ∷ []) []) ≡ place_if b n
+least-if true n = refl
+least-if false n = refl

@@ -1,8 +1,8 @@
 -- Names behind the scopes, seen from a class.
-use Rattle.std.proofs.Common.{◌≡◌, Bool, true, false, List, refl, ap, sym, ◌∙◌}
+use Rattle.std.proofs.Common.{◌≡◌, Bool, true, false, List, refl, ◌∙◌}
 use Rattle.st_tree.specs.declared.units.ClassUnit.{ClassUnit}
 use Rattle.st_checks.specs.Declarations.{Text, ancestors}
-use Rattle.st_checks.specs.Meanings.{Meaning, Undeclared, Assignable, or_else, assignable_if, in_instances, in_classes, in_program, meaning_outside}
+use Rattle.st_checks.specs.Meanings.{Meaning, Assignable, or_else, assignable_if, in_instances, in_classes, in_program, meaning_outside}
 use Rattle.st_checks.specs.Views.{Viewpoint, outside}
 
 own-first : (b : Bool) (m rest : Meaning) → assignable_if b ≡ m → b ≡ true → Assignable ≡ or_else m rest

@@ -1,10 +1,9 @@
 -- Names that are repeated in a list, and what the list has seen.
-use Rattle.std.proofs.Common.{◌≡◌, ℕ, Bool, true, false, cond, ◌||◌, List, [], ◌∷◌, ◌++◌, Option, None, Some, refl, ap, sym, ◌∙◌}
+use Rattle.std.proofs.Common.{◌≡◌, ℕ, Bool, true, false, cond, ◌||◌, List, [], ◌∷◌, ◌++◌, refl, ap, sym, ◌∙◌}
 use Rattle.std.specs.List.{list_any}
 use Rattle.std.specs.Str.{bytes_eq}
 use Rattle.std.proofs.lemmas.List.Folds.{list_any-append}
 use Rattle.std.proofs.lemmas.Slice.Eq.{bytes_eq-Decides}
-use Rattle.std.proofs.lemmas.Bool.Decides.{same_from_decides}
 use Rattle.st_tree.specs.declared.tree.Name.{Name}
 use Rattle.st_checks.specs.Declarations.{Text}
 use Rattle.st_checks.specs.Meanings.{declares}
@@ -15,7 +14,7 @@ abbrev pub seen_after : List Text → List Name → List Text
 seen_after seen [] = seen
 seen_after seen (n ∷ names) = seen_after (n.text ∷ seen) names
 
-if-append : (b : Bool) (x : ℕ) (xs ys zs : List ℕ) → zs ≡ xs ++ ys → cond b (x ∷ zs) zs ≡ cond b (x ∷ xs) xs ++ ys
+pub if-append : (b : Bool) (x : ℕ) (xs ys zs : List ℕ) → zs ≡ xs ++ ys → cond b (x ∷ zs) zs ≡ cond b (x ∷ xs) xs ++ ys
 if-append true x xs ys zs e = ap (λ (l : List ℕ). x ∷ l) e
 if-append false x xs ys zs e = e
 
@@ -23,7 +22,7 @@ pub repeated_from-append : (seen : List Text) (a b : List Name) → repeated_fro
 repeated_from-append seen [] b = refl
 repeated_from-append seen (n ∷ a) b = if-append (list_any (bytes_eq n.text) seen) n.at (repeated_from (n.text ∷ seen) a) (repeated_from (seen_after (n.text ∷ seen) a) b) (repeated_from (n.text ∷ seen) (a ++ b)) (repeated_from-append (n.text ∷ seen) a b)
 
-or-false : (b : Bool) → (b || false) ≡ b
+pub or-false : (b : Bool) → (b || false) ≡ b
 or-false true = refl
 or-false false = refl
 
@@ -45,9 +44,3 @@ any-push t texts u = list_any-append (bytes_eq t) texts (u ∷ []) ∙ ap (λ (b
 
 pub bytes_eq-is : (a b : Text) → bytes_eq a b ≡ true → a ≡ b
 bytes_eq-is a b h = (bytes_eq-Decides a b).0 h
-
-pub bytes_eq-refl : (a : Text) → bytes_eq a a ≡ true
-bytes_eq-refl a = (bytes_eq-Decides a a).1 refl
-
-pub bytes_eq-sym : (a b : Text) → bytes_eq a b ≡ bytes_eq b a
-bytes_eq-sym a b = same_from_decides (bytes_eq a b) (bytes_eq b a) (bytes_eq-Decides a b) (λ h. sym ((bytes_eq-Decides b a).0 h), λ e. (bytes_eq-Decides b a).1 (sym e))

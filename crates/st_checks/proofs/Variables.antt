@@ -9,14 +9,15 @@ use Rattle.std.specs.Str.{bytes_eq}
 use Rattle.st_tree.specs.declared.tree.Name.{Name}
 use Rattle.st_checks.specs.Declarations.{Text}
 use Rattle.st_checks.specs.Bodies.{Scope}
-use Rattle.st_checks.specs.Meanings.{Meaning, declares, in_scope, in_scopes, or_else, fixed_if, assignable_if}
-use Rattle.st_checks.specs.NameSets.{Bytes, same_bytes, option_if, variable_in, of_variable, HasVariables, Gains, AreSeen}
+use Rattle.st_checks.specs.Meanings.{declares, in_scope, in_scopes, or_else, fixed_if, assignable_if}
+use Rattle.st_checks.specs.NameSets.{Bytes, same_bytes, option_if, variable_in, of_variable, Gains, AreSeen}
 use Rattle.st_checks.specs.StaticRules.{least, repeated_from}
 use Rattle.st_checks.specs.Views.{lesser_of}
 use Rattle.st_checks.specs.declared.scopes.Variable.{Variable}
 use Rattle.st_checks.specs.declared.scopes.Variable.TheVariants as variables
-use Rattle.st_checks.proofs.Leasts.{least-append, lesser_of-assoc, lesser_of-none}
-use Rattle.st_checks.proofs.Repeats.{seen_after, seen_after-any, declares-push, repeated_from-append, bytes_eq-is, bytes_eq-sym}
+use Rattle.st_checks.proofs.Leasts.{place_if, least-if, least-append, lesser_of-assoc, lesser_of-none}
+use Rattle.st_checks.proofs.Repeats.{seen_after, seen_after-any, declares-push, repeated_from-append, bytes_eq-is}
+use Rattle.st_checks.proofs.NameLists.{bytes_eq-sym}
 
 some-or : (o : Option Variable) (b : Bool) (v : Variable) → is_some (option_or o (option_if b v)) ≡ (is_some o || b)
 some-or None true v = refl
@@ -26,10 +27,6 @@ some-or (Some x) b v = refl
 pub none-of : {A : Type 0} (o : Option A) → is_some o ≡ false → o ≡ None
 none-of None h = refl
 none-of (Some x) h = absurd (cc)
-
-option_or-none : (o : Option Variable) → option_or o None ≡ o
-option_or-none None = refl
-option_or-none (Some x) = refl
 
 present-step : (o : Option Variable) (d b : Bool) (v : Variable) (g : Option Variable) → g ≡ option_or o (option_if d v) → (b ≡ true → is_some g ≡ true) → g ≡ option_or o (option_if (d || b) v)
 present-step o true b v g e h = e
@@ -79,14 +76,6 @@ module _ {S : Type 0} where
   }
 
 -- ---- the places of repeated names
-
-abbrev pub place_if : Bool → ℕ → Option ℕ
-place_if true n = Some n
-place_if false n = None
-
-least-if : (b : Bool) (n : ℕ) → least (cond b (n ∷ []) []) ≡ place_if b n
-least-if true n = refl
-least-if false n = refl
 
 -- one name more
 pub repeated-push : (start : Option ℕ) (seen : List Text) (names : List Name) (n : Name) (r : Option ℕ) → r ≡ lesser_of start (least (repeated_from seen names)) → lesser_of r (place_if (list_any (bytes_eq n.text) (seen_after seen names)) n.at) ≡ lesser_of start (least (repeated_from seen (names ++ n ∷ [])))

@@ -1,5 +1,5 @@
 -- A walk over a body, a part at a time.
-use Rattle.std.proofs.Common.{◌≡◌, ◌+◌, ◌<◌, ◌≤◌, ℕ, Bool, true, false, cond, ◌&&◌, List, [], ◌∷◌, ◌++◌, length, get_or, take, drop, map, Option, None, Some, ◌⊎◌, inl, inr, refl, ap, sym, ◌∙◌, append_assoc, append-nil}
+use Rattle.std.proofs.Common.{◌≡◌, ◌+◌, ◌<◌, ◌≤◌, ℕ, Bool, true, false, cond, ◌&&◌, List, [], ◌∷◌, ◌++◌, length, get_or, take, map, Option, None, Some, ◌⊎◌, inl, inr, refl, ap, sym, ◌∙◌, append_assoc, append-nil}
 use Rattle.std.proofs.lemmas.List.{take_more, take_all, map_push}
 use Rattle.st_tree.specs.declared.tree.Name.{Name}
 use Rattle.st_tree.specs.declared.tree.Body.{Body}
@@ -17,7 +17,8 @@ use Rattle.st_checks.specs.declared.bodies.BodyFaults.{BodyFaults}
 use Rattle.st_checks.specs.declared.meaning.Meaning.{Meaning as Meant}
 use Rattle.st_checks.specs.declared.meaning.Meaning.TheVariants as meants
 use Rattle.st_checks.specs.declared.bodies.Walk.{Walk}
-use Rattle.st_checks.proofs.Leasts.{least-append, least-cons, lesser_of-assoc, lesser_of-none}
+use Rattle.st_checks.proofs.Repeats.{if-append}
+use Rattle.st_checks.proofs.Leasts.{place_if, least-if, least-append, lesser_of-assoc, lesser_of-none}
 
 -- ---- the faults of two parts
 
@@ -26,10 +27,6 @@ repeated_in-append [] b = refl
 repeated_in-append (s ∷ a) b =
     ap (λ (l : List ℕ). repeated_from [] (s.parameters ++ s.temporaries) ++ l) (repeated_in-append a b)
     ∙ sym (append_assoc (repeated_from [] (s.parameters ++ s.temporaries)) (repeated_in a) (repeated_in b))
-
-if-append : (b : Bool) (x : ℕ) (xs ys zs : List ℕ) → zs ≡ xs ++ ys → cond b (x ∷ zs) zs ≡ cond b (x ∷ xs) xs ++ ys
-if-append true x xs ys zs e = ap (λ (l : List ℕ). x ∷ l) e
-if-append false x xs ys zs e = e
 
 places-append : (test : Mention → Bool) (a b : List Mention) → places test (a ++ b) ≡ places test a ++ places test b
 places-append test [] b = refl
@@ -132,14 +129,6 @@ pub so_far-all : {A : Type 0} (f : A → Within) (w0 w1 : Walk) (xs : List A) (i
 so_far-all {A} f w0 w1 xs i done e = e ∙ ap (λ (l : List A). noted w0 (all_within (map f l) w0.scopes)) (take_all i xs done)
 
 -- ---- a mention
-
-abbrev place_if : Bool → ℕ → Option ℕ
-place_if true n = Some n
-place_if false n = None
-
-least-if : (b : Bool) (n : ℕ) → least (cond b (n ∷ []) []) ≡ place_if b n
-least-if true n = refl
-least-if false n = refl
 
 abbrev with_faults : Walk → (undeclared fixed : Option ℕ) → Walk
 with_faults w undeclared fixed = record w { faults = record { repeated = w.faults.repeated; undeclared = undeclared; fixed = fixed } }

@@ -1,5 +1,5 @@
 -- Sets of names by their bytes: what one scope declares, and what one class declares (ANSI NCITS 319, 3.3, 3.4).
-use Rattle.std.specs.Prelude.{◌≡◌, ℕ, Bool, true, false, List, [], ◌∷◌, Option, None, Some, is_some, if◌then◌else◌}
+use Rattle.std.specs.Prelude.{◌≡◌, Bool, true, false, List, Option, None, Some, is_some, if◌then◌else◌}
 use Rattle.std.specs.Borrow.{Bor}
 use Rattle.std.specs.HashMap.{HashMap, get}
 use Rattle.std.specs.HashSet.{HashSet, contains_by}
@@ -12,7 +12,6 @@ use Rattle.st_tree.specs.declared.units.Unit.{Unit}
 use Rattle.st_checks.specs.Declarations.{Text, declares_class, class_of_unit}
 use Rattle.st_checks.specs.Bodies.{Scope}
 use Rattle.st_checks.specs.Meanings.{Meaning, Undeclared, Fixed, Assignable, declares}
-use Rattle.st_checks.specs.StaticRules.{repeated_from}
 use Rattle.st_checks.specs.declared.scopes.Variable.{Variable}
 use Rattle.st_checks.specs.declared.scopes.Variable.TheVariants as variables
 

@@ -1,5 +1,5 @@
 -- From where a body sees names, and the faults of a part of it (ANSI NCITS 319, 3.3, 3.4).
-use Rattle.std.specs.Prelude.{◌≡◌, ℕ, Bool, ◌&&◌, List, [], ◌∷◌, Option, None, Some, min, refl}
+use Rattle.std.specs.Prelude.{ℕ, ◌&&◌, List, Option, None, Some, min, refl}
 use Rattle.std.specs.Coded.{Coded, code_by, coded×, coded_list, coded_ℕ}
 use Rattle.st_base.specs.contracts.builtins.MethodSide as side
 use Rattle.st_tree.specs.contracts.units.Unit as unit

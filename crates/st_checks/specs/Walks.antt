@@ -1,5 +1,5 @@
 -- A walk over a body (ANSI NCITS 319, 3.4).
-use Rattle.std.specs.Prelude.{List, [], ◌∷◌, drop}
+use Rattle.std.specs.Prelude.{[], ◌∷◌, drop}
 use Rattle.st_checks.specs.Bodies.{Scope, Naming}
 use Rattle.st_checks.specs.Views.{faults_of, joined}
 use Rattle.st_checks.specs.declared.bodies.Walk.{Walk}

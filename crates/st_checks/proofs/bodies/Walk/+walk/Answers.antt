@@ -1,6 +1,5 @@
-use Rattle.std.proofs.Common.{◌∙◌, ap, sym, map}
-use Rattle.st_checks.specs.Bodies.{Scope, all_within, names_in_message, names_in_operand, names_in_statement}
-use Rattle.st_checks.specs.Walks.{noted}
+use Rattle.std.proofs.Common.{sym, map}
+use Rattle.st_checks.specs.Bodies.{names_in_message, names_in_operand, names_in_statement}
 use Rattle.st_checks.proofs.Naming.{body_out, block_out, message_out, variable_in, self_in, super_in, literal_in, block_in, paren_in, value_in, return_in}
 use Rattle.st_checks.proofs.Walking.{noted-nothing, so_far-none, so_far-more, so_far-all, walked-body, walked-expr, walked-operand}
 use Rattle.st_checks.proofs.bodies.Walk.+walk.Goals as goal

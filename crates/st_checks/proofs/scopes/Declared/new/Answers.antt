@@ -1,4 +1,4 @@
-use Rattle.std.proofs.Common.{[], refl, ap, sym, ◌∙◌}
+use Rattle.std.proofs.Common.{[]}
 use Rattle.st_checks.proofs.Variables.{empty-seen, seen-gains, repeated-both}
 use Rattle.st_checks.specs.declared.scopes.Variable.TheVariants as variables
 use Rattle.st_checks.proofs.Repeats.{seen_after}

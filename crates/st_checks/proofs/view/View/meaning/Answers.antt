@@ -1,4 +1,4 @@
-use Rattle.std.proofs.Common.{◌≡◌, ◌∙◌, Bor, List, map, ap, sym}
+use Rattle.std.proofs.Common.{◌∙◌, Bor, List, map, ap}
 use Rattle.st_tree.specs.declared.units.ClassUnit.{ClassUnit}
 use Rattle.st_checks.specs.Views.{Viewpoint, meant}
 use Rattle.st_checks.proofs.Outside.{outside-own, outside-shared}
