@@ -1,4 +1,6 @@
 pub mod Actions
+pub mod Answers
+pub mod AtOnce
 pub mod Kinds
 pub mod ObjectRows
 pub mod TextRows

@@ -1,0 +1,45 @@
+-- What a call answers for the action of its message, and what it leaves of the memory.
+use Rattle.std.specs.Prelude.{ℕ, ◌+◌, ◌-◌, ◌^◌, min, Bool, true, false, List, [], nat_le, if◌then◌else◌}
+use Rattle.object_heap.specs.declared.value.Value.{Value}
+use Rattle.object_heap.specs.declared.trouble.Trouble.{Trouble}
+use Rattle.object_heap.specs.Charges.{Memory, with_store, charged}
+use Rattle.st_code.specs.Texts.{Text}
+use Rattle.st_code.specs.Program.{Program}
+use Rattle.st_collections.specs.declared.answer.Built.{Built}
+use Rattle.st_collections.specs.Actions.{Action, Gives, Changes, Makes, Fails, PassesIntegers}
+
+-- a program of these names: what a message does at once asks for no more of its program
+abbrev pub program_of : List Text → Program
+program_of names = record { names = names; classes = []; methods = []; bodies = []; initializers = []; literals = []; trouble_place = 0; variables = 0; step_limit = 0; depth_limit = 0; cell_limit = 0 }
+
+-- a charge as it is told, at most 2^128 - 1
+abbrev pub told : ℕ → ℕ
+told charge = min charge (2 ^ 128 - 1)
+
+-- the value of a charge, or past the limit the two numbers
+abbrev pub charge_told : ℕ → Value → Memory → Built
+charge_told charge v m = if nat_le (m.used + charge) m.limit then Built.Value v else Built.Cells m.used (told charge)
+
+-- the answer for an action; the actions that begin something aren't among these messages
+abbrev pub answer_of : Action → Memory → Built
+answer_of (Gives v) m = Built.Value v
+answer_of (Changes s v) m = Built.Value v
+answer_of (Makes charge s v) m = charge_told charge v m
+answer_of (Fails t) m = Built.Trouble t
+answer_of PassesIntegers m = Built.IntegerLimit
+answer_of _ m = Built.OutOfMemory
+
+-- the memory after an action
+abbrev pub memory_of : Action → Memory → Memory
+memory_of (Changes s v) m = with_store s m
+memory_of (Makes charge s v) m = charged charge s m
+memory_of _ m = m
+
+-- whether a call answered want of memory
+abbrev pub is_out : Built → Bool
+is_out Built.OutOfMemory = true
+is_out _ = false
+
+-- the first where a call answered want of memory, else the second
+abbrev pub unless_out : {A : Type 0} → Built → A → A → A
+unless_out result out other = if is_out result then out else other

@@ -1,0 +1,35 @@
+-- What the messages of this crate do, one by one, by the table of built-in messages.
+use Rattle.std.specs.Prelude.{List}
+use Rattle.object_heap.specs.declared.value.Value.{Value}
+use Rattle.object_heap.specs.Store.{Store}
+use Rattle.st_code.specs.Program.{Program}
+use Rattle.st_code.specs.Messages.{CharacterMessage}
+use Rattle.st_collections.specs.declared.message.CollectionMessage.{CollectionMessage}
+use Rattle.st_collections.specs.declared.message.OfCharacter.{OfCharacter}
+use Rattle.st_collections.specs.Actions.{Action}
+use Rattle.st_collections.specs.TextRows.{character_action}
+
+-- the row of a message of Characters
+abbrev pub character_row : OfCharacter → CharacterMessage
+character_row OfCharacter.FromCodePoint = CharacterMessage.FromCodePoint
+character_row OfCharacter.Cr = CharacterMessage.Fixed 13
+character_row OfCharacter.Lf = CharacterMessage.Fixed 10
+character_row OfCharacter.Tab = CharacterMessage.Fixed 9
+character_row OfCharacter.Space = CharacterMessage.Fixed 32
+character_row OfCharacter.CodePoint = CharacterMessage.CodePoint
+character_row OfCharacter.AsLowercase = CharacterMessage.AsLowercase
+character_row OfCharacter.AsUppercase = CharacterMessage.AsUppercase
+character_row OfCharacter.AsString = CharacterMessage.AsString
+character_row OfCharacter.IsLetter = CharacterMessage.IsLetter
+character_row OfCharacter.IsDigit = CharacterMessage.IsDigit
+character_row OfCharacter.IsAlphaNumeric = CharacterMessage.IsAlphaNumeric
+character_row OfCharacter.IsLowercase = CharacterMessage.IsLowercase
+character_row OfCharacter.IsUppercase = CharacterMessage.IsUppercase
+character_row OfCharacter.Less = CharacterMessage.Less
+character_row OfCharacter.Greater = CharacterMessage.Greater
+character_row OfCharacter.LessOrEqual = CharacterMessage.LessOrEqual
+character_row OfCharacter.GreaterOrEqual = CharacterMessage.GreaterOrEqual
+
+-- what a message does
+abbrev pub action_of : Program → Store → CollectionMessage → Value → List Value → Action
+action_of p s (CollectionMessage.Character m) r args = character_action s (character_row m) r args

@@ -1,0 +1,30 @@
+// What a message does at once.
+ghost use Rattle.std.specs.Prelude.{◌≡◌, false, IsTrue};
+ghost use Rattle.st_collections.specs.Answers.{program_of, answer_of, memory_of, is_out, unless_out};
+ghost use Rattle.st_collections.specs.AtOnce.{action_of};
+
+use crate::answer::Built;
+use crate::characters::character_message;
+use crate::message::CollectionMessage;
+use object_heap::{Heap, Value};
+use st_names::Names;
+
+/// Does what a message does at once and answers it. `names` has the texts of the symbols. All
+/// cells that the message takes are one charge, which is tested before anything is written. An
+/// argument that isn't there is nil.
+pub fn collection_message<H: Heap>(
+    heap: &mut H,
+    names: &Names,
+    message: CollectionMessage,
+    receiver: Value,
+    arguments: &[Value],
+) -> Built
+    ensures memory { H.meaning heap.new ≡ unless_out result (H.meaning heap.old) (memory_of (action_of (program_of names.now) (H.meaning heap.old).store message receiver arguments.now) (H.meaning heap.old)) }
+    ensures answer { result ≡ unless_out result result (answer_of (action_of (program_of names.now) (H.meaning heap.old).store message receiver arguments.now) (H.meaning heap.old)) }
+    ensures reserved { IsTrue H.reserved → is_out result ≡ false }
+    ensures literals { H.literal_room heap.new ≡ H.literal_room heap.old }
+{
+    match message {
+        CollectionMessage::Character(m) => character_message(heap, m, receiver, arguments),
+    }
+}

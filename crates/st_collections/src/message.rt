@@ -1,0 +1,48 @@
+// The messages that act at once, by what they are sent to.
+
+/// A message that acts at once: one variant for each built-in selector, by its protocol.
+#[derive(Clone, Copy, Debug, PartialEq, Eq)]
+pub enum CollectionMessage {
+    Character(OfCharacter),
+}
+
+/// The messages of Character and its class (section 5.4).
+#[derive(Clone, Copy, Debug, PartialEq, Eq)]
+pub enum OfCharacter {
+    /// `codePoint:` of the class
+    FromCodePoint,
+    /// `cr` of the class
+    Cr,
+    /// `lf` of the class
+    Lf,
+    /// `tab` of the class
+    Tab,
+    /// `space` of the class
+    Space,
+    /// `codePoint`
+    CodePoint,
+    /// `asLowercase`
+    AsLowercase,
+    /// `asUppercase`
+    AsUppercase,
+    /// `asString`
+    AsString,
+    /// `isLetter`
+    IsLetter,
+    /// `isDigit`
+    IsDigit,
+    /// `isAlphaNumeric`
+    IsAlphaNumeric,
+    /// `isLowercase`
+    IsLowercase,
+    /// `isUppercase`
+    IsUppercase,
+    /// `<`
+    Less,
+    /// `>`
+    Greater,
+    /// `<=`
+    LessOrEqual,
+    /// `>=`
+    GreaterOrEqual,
+}
