@@ -1,7 +1,9 @@
 -- What a call answers for the action of its message, and what it leaves of the memory.
-use Rattle.std.specs.Prelude.{ℕ, ◌+◌, ◌-◌, ◌^◌, min, Bool, true, false, List, [], nat_le, if◌then◌else◌}
+use Rattle.std.specs.Prelude.{ℕ, ◌+◌, ◌-◌, ◌^◌, min, Bool, true, false, List, [], length, Result, Ok, Err, nat_le, if◌then◌else◌}
 use Rattle.object_heap.specs.declared.value.Value.{Value}
 use Rattle.object_heap.specs.declared.trouble.Trouble.{Trouble}
+use Rattle.object_heap.specs.declared.heap.HeapStop.{HeapStop}
+use Rattle.object_heap.specs.declared.heap.HeapStop.TheVariants.{Limit, OutOfMemory}
 use Rattle.object_heap.specs.Charges.{Memory, with_store, charged}
 use Rattle.st_code.specs.Texts.{Text}
 use Rattle.st_code.specs.Program.{Program}
@@ -43,3 +45,11 @@ is_out _ = false
 -- the first where a call answered want of memory, else the second
 abbrev pub unless_out : {A : Type 0} → Built → A → A → A
 unless_out result out other = if is_out result then out else other
+
+-- the number of a new object, or past the limit the two numbers
+abbrev pub allot_answer : ℕ → Memory → Result ℕ HeapStop
+allot_answer charge m = if nat_le (m.used + charge) m.limit then Ok (length m.store.objects) else Err (Limit m.used (told charge))
+
+abbrev pub stop_answer : HeapStop → Built
+stop_answer (Limit used charge) = Built.Cells used charge
+stop_answer OutOfMemory = Built.OutOfMemory

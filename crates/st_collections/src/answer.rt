@@ -1,9 +1,10 @@
 // What a message answers at once.
 ghost use Rattle.std.specs.Prelude.{◌≡◌};
 ghost use Rattle.st_collections.specs.Actions.{boolean};
+ghost use Rattle.st_collections.specs.Answers.{stop_answer};
 ghost use Rattle.st_collections.specs.declared.answer.Built.{Built};
 
-use object_heap::{Trouble, Value};
+use object_heap::{HeapStop, Trouble, Value};
 
 /// What a message answers at once.
 #[derive(Clone, Copy, Debug, PartialEq, Eq)]
@@ -24,4 +25,14 @@ pub fn answer_truth(holds: bool) -> Built
     ensures { result ≡ Built.Value (boolean holds) }
 {
     Built::Value(if holds { Value::True } else { Value::False })
+}
+
+/// What a heap that made nothing answers.
+pub fn answer_stop(stop: HeapStop) -> Built
+    ensures { result ≡ stop_answer stop }
+{
+    match stop {
+        HeapStop::Limit { used, charge } => Built::Cells { used, charge },
+        HeapStop::OutOfMemory => Built::OutOfMemory,
+    }
 }

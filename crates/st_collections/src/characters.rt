@@ -8,13 +8,15 @@ ghost use Rattle.st_collections.specs.TextRows.{byte_of, character_action, from_
 
 use crate::answer::{Built, answer_truth};
 use crate::arguments::first_of;
+use crate::classes::STRING;
+use crate::items::Items;
 use crate::letters::{
     is_digit_byte, is_letter_byte, is_lower_letter, is_upper_letter, lower_of, upper_of,
 };
+use crate::makers::new_items;
 use crate::message::OfCharacter;
-use object_heap::{Heap, HeapStop, Trouble, Value};
-
-const STRING: u32 = 9;
+use object_heap::{Heap, Trouble, Value};
+use st_names::Names;
 
 /// The byte of a Character, and 0 of any other value.
 pub fn byte_of(value: Value) -> u8
@@ -27,7 +29,8 @@ pub fn byte_of(value: Value) -> u8
 }
 
 fn character(value: Value) -> Built
-    ensures { (m : Memory) → result ≡ answer_of (from_code_point value) m }
+    ensures answer { (m : Memory) → result ≡ answer_of (from_code_point value) m }
+    ensures settled { is_out result ≡ false }
 {
     match value {
         Value::Integer(code @ 0..=255) => Built::Value(Value::Character(code as u8)),
@@ -36,27 +39,11 @@ fn character(value: Value) -> Built
     }
 }
 
-#[tactic(auto, unfolding(crate::specs::Actions::makes_string, crate::specs::Actions::makes_bytes, crate::specs::Actions::with_new))]
-fn string_of<H: Heap>(heap: &mut H, byte: u8) -> Built
-    ensures memory { H.meaning heap.new ≡ unless_out result (H.meaning heap.old) (memory_of (makes_string (byte ∷ []) (H.meaning heap.old).store) (H.meaning heap.old)) }
-    ensures answer { result ≡ unless_out result result (answer_of (makes_string (byte ∷ []) (H.meaning heap.old).store) (H.meaning heap.old)) }
-    ensures reserved { IsTrue H.reserved → is_out result ≡ false }
-    ensures literals { H.literal_room heap.new ≡ H.literal_room heap.old }
-{
-    match heap.make(STRING, 0, 1) {
-        Ok(object) => {
-            heap.put_byte(object, 0, byte);
-            Built::Value(Value::Object(object))
-        }
-        Err(HeapStop::Limit { used, charge }) => Built::Cells { used, charge },
-        Err(HeapStop::OutOfMemory) => Built::OutOfMemory,
-    }
-}
-
 /// What a Character or its class answers.
 #[tactic(auto, unfolding(crate::specs::TextRows::character_action))]
 pub fn character_message<H: Heap>(
     heap: &mut H,
+    names: &Names,
     message: OfCharacter,
     receiver: Value,
     arguments: &[Value],
@@ -77,7 +64,15 @@ pub fn character_message<H: Heap>(
         OfCharacter::CodePoint => Built::Value(Value::Integer(byte as i128)),
         OfCharacter::AsLowercase => Built::Value(Value::Character(lower_of(byte))),
         OfCharacter::AsUppercase => Built::Value(Value::Character(upper_of(byte))),
-        OfCharacter::AsString => string_of(heap, byte),
+        OfCharacter::AsString => {
+            new_items(
+                heap,
+                names,
+                STRING,
+                Items::Repeated(Value::Character(byte)),
+                1,
+            )
+        },
         OfCharacter::IsLetter => answer_truth(is_letter_byte(byte)),
         OfCharacter::IsDigit => answer_truth(is_digit_byte(byte)),
         OfCharacter::IsAlphaNumeric => answer_truth(is_letter_byte(byte) || is_digit_byte(byte)),

@@ -25,6 +25,6 @@ pub fn collection_message<H: Heap>(
     ensures literals { H.literal_room heap.new ≡ H.literal_room heap.old }
 {
     match message {
-        CollectionMessage::Character(m) => character_message(heap, m, receiver, arguments),
+        CollectionMessage::Character(m) => character_message(heap, names, m, receiver, arguments),
     }
 }

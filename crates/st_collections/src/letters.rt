@@ -34,12 +34,20 @@ pub fn is_letter_byte(byte: u8) -> bool
 pub fn upper_of(byte: u8) -> u8
     ensures { result ≡ to_upper byte }
 {
-    if is_lower_letter(byte) { byte - 32 } else { byte }
+    if is_lower_letter(byte) {
+        byte - 32
+    } else {
+        byte
+    }
 }
 
 #[tactic(auto, unfolding(st_code::specs::Texts::is_upper, st_code::specs::Texts::to_lower))]
 pub fn lower_of(byte: u8) -> u8
     ensures { result ≡ to_lower byte }
 {
-    if is_upper_letter(byte) { byte + 32 } else { byte }
+    if is_upper_letter(byte) {
+        byte + 32
+    } else {
+        byte
+    }
 }

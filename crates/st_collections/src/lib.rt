@@ -4,8 +4,13 @@
 mod answer;
 mod arguments;
 mod characters;
+mod classes;
 mod dispatch;
+mod elements;
+mod intervals;
+mod items;
 mod letters;
+mod makers;
 mod message;
 
 pub use answer::Built;

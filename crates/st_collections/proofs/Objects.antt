@@ -1,0 +1,107 @@
+-- A new object, its items written one after another.
+use Rattle.std.proofs.Common.{zero, suc, None, ◌≡◌, ℕ, ◌+◌, ◌-◌, ◌<◌, ◌≤◌, Bool, true, false, ◌||◌, List, [], ◌∷◌, ◌++◌, map, length, replicate, set, nat_eq, sym, refl, ap, ◌∙◌, arith, if◌then◌else◌}
+use Rattle.std.specs.List.{range_with_len}
+use Rattle.std.proofs.lemmas.List.{get_or_at, set_at, map-set, length-set, length-replicate, length-append, length-map, append_assoc, append-nil}
+use Rattle.std.proofs.lemmas.List.FromFn.{map-range_with_len_more, length-map-range_with_len}
+use Rattle.object_heap.specs.declared.value.Value.{Value}
+use Rattle.object_heap.specs.declared.value.Value.TheVariants.{Nil}
+use Rattle.object_heap.specs.Store.{Store, Object, no_object, object_at, object_set, object_added, blank_object, with_slot, with_byte, slot_written, byte_written}
+use Rattle.object_heap.specs.Charges.{Memory, object_charge, charged, made, with_store}
+use Rattle.st_code.specs.BuiltIns.{string_class, byte_array_class}
+use Rattle.st_code.specs.Program.{Program}
+use Rattle.st_collections.specs.Actions.{Action, Makes, new_object, next_object, makes_slots, makes_bytes, with_new}
+use Rattle.st_collections.specs.TextRows.{byte_of}
+use Rattle.st_collections.specs.SequenceRows.{byte_in, makes_sequence}
+use Rattle.st_collections.specs.declared.items.Items.{Items}
+use Rattle.st_collections.specs.Items.{item_at, items_of, item_written, sequence_charge, sequence_object}
+
+pub map-replicate : {X Y : Type 0} (f : X → Y) → (n : ℕ) (x : X) → map f (replicate n x) ≡ replicate n (f x)
+map-replicate f zero x = refl
+map-replicate f (suc n) x = ap (λ ys. f x ∷ ys) (map-replicate f n x)
+
+-- the same, by what the class's objects hold
+held : Bool → Bool → ℕ → List Value → Object
+held is_text is_bytes class items =
+    if is_text then new_object class [] (map byte_of items) else
+    (if is_bytes then new_object class [] (map byte_in items) else new_object class items [])
+
+blank_held : (t b : Bool) (class n : ℕ) → (t || b) ≡ true → held t b class (replicate n Nil) ≡ blank_object class 0 n
+unfolding held
+blank_held true b class n h = ap (λ bytes. new_object class [] bytes) (map-replicate byte_of n Nil)
+blank_held false true class n h = ap (λ bytes. new_object class [] bytes) (map-replicate byte_in n Nil)
+blank_held false false class n h = cc
+
+slots_held : (t b : Bool) (class n : ℕ) → (t || b) ≡ false → held t b class (replicate n Nil) ≡ blank_object class n 0
+unfolding held
+slots_held true b class n h = cc
+slots_held false true class n h = cc
+slots_held false false class n h = ap (λ (k : ℕ). record { class = class; slots = replicate n Nil; bytes = []; capacity = k; read_only = false; closure = None }) (length-replicate n Nil)
+
+abbrev pub HoldsBytes : ℕ → Bool
+HoldsBytes class = nat_eq class string_class || nat_eq class byte_array_class
+
+-- what a heap made is the object with none of its items written
+pub made_bytes : (class n : ℕ) (m : Memory) → HoldsBytes class ≡ true → made class 0 n m ≡ charged (sequence_charge class n) (object_added (sequence_object class (replicate n Nil)) m.store) m
+unfolding held
+made_bytes class n m h =
+    let o : sequence_object class (replicate n Nil) ≡ blank_object class 0 n = blank_held (nat_eq class string_class) (nat_eq class byte_array_class) class n h in
+    rw (h, o) refl
+
+-- ---- a change to the object added last
+
+pub last_object : (o : Object) (s : Store) → object_at (length s.objects) (object_added o s) ≡ o
+last_object o s = get_or_at s.objects o [] no_object (length s.objects) refl
+
+pub last_set : (o o' : Object) (s : Store) → object_set (length s.objects) o' (object_added o s) ≡ object_added o' s
+last_set o o' s = ap (λ (objects : List Object). record { objects = objects; closures = s.closures; scopes = s.scopes }) (set_at s.objects o [] o' (length s.objects) refl)
+
+held_written : (t b : Bool) (class number k : ℕ) (v : Value) (s : Store) → Store
+held_written t b class number k v s =
+    if t then with_byte number k (byte_of v) s else
+    (if b then with_byte number k (byte_in v) s else with_slot number k v s)
+
+with_last : (o o' : Object) (s : Store) (f : Object → Object) → f o ≡ o' → object_set (length s.objects) (f (object_at (length s.objects) (object_added o s))) (object_added o s) ≡ object_added o' s
+with_last o o' s f e = rw (last_object o s, e, last_set o o' s) refl
+
+written_held : (t b : Bool) (class k : ℕ) (v : Value) (items : List Value) (s : Store) → held_written t b class (length s.objects) k v (object_added (held t b class items) s) ≡ object_added (held t b class (set items k v)) s
+unfolding held held_written
+written_held true b class k v items s =
+    with_last (new_object class [] (map byte_of items)) (new_object class [] (map byte_of (set items k v))) s (byte_written k (byte_of v))
+    (ap (λ bytes. new_object class [] bytes) (sym (map-set byte_of items k v)))
+written_held false true class k v items s =
+    with_last (new_object class [] (map byte_in items)) (new_object class [] (map byte_in (set items k v))) s (byte_written k (byte_in v))
+    (ap (λ bytes. new_object class [] bytes) (sym (map-set byte_in items k v)))
+written_held false false class k v items s =
+    with_last (new_object class items []) (new_object class (set items k v) []) s (slot_written k v)
+    (ap (λ (room : ℕ). record { class = class; slots = set items k v; bytes = []; capacity = room; read_only = false; closure = None }) (sym (length-set items k v)))
+
+pub item_written_last : (class k : ℕ) (v : Value) (items : List Value) (s : Store) → item_written class (length s.objects) k v (object_added (sequence_object class items) s) ≡ object_added (sequence_object class (set items k v)) s
+unfolding held held_written
+item_written_last class k v items s = written_held (nat_eq class string_class) (nat_eq class byte_array_class) class k v items s
+
+-- ---- items so far, and nils
+
+-- so many items of a list that is made by place, then nils
+abbrev pub so_far : (ℕ → Value) → ℕ → ℕ → List Value
+so_far f count k = map f (range_with_len 0 k) ++ replicate (count - k) Nil
+
+pub so_far_more : (f : ℕ → Value) (count k : ℕ) → k < count → set (so_far f count k) k (f k) ≡ so_far f count (k + 1)
+so_far_more f count k h =
+    let e : count - k ≡ suc (count - (k + 1)) = omega arith in
+    rw (e, set_at (map f (range_with_len 0 k)) Nil (replicate (count - (k + 1)) Nil) (f k) k (length-map-range_with_len f 0 k), map-range_with_len_more f 0 k k (omega arith))
+    (sym (append_assoc (map f (range_with_len 0 k)) (f k ∷ []) (replicate (count - (k + 1)) Nil)))
+
+pub so_far_all : (f : ℕ → Value) (count : ℕ) → so_far f count count ≡ map f (range_with_len 0 count)
+so_far_all f count = let e : count - count ≡ 0 = omega arith in rw e (append-nil (map f (range_with_len 0 count)))
+
+-- the memory where so many items were written
+abbrev pub filled : Program → Memory → ℕ → Items → ℕ → ℕ → Memory
+filled p m class items count k = record {
+  store = object_added (sequence_object class (so_far (item_at p m.store items) count k)) m.store;
+  used = m.used + sequence_charge class count;
+  limit = m.limit
+}
+
+pub filled_more : (p : Program) (m : Memory) (class : ℕ) (items : Items) (count k : ℕ) (v : Value) → k < count → v ≡ item_at p m.store items k → with_store (item_written class (length m.store.objects) k v (filled p m class items count k).store) (filled p m class items count k) ≡ filled p m class items count (k + 1)
+filled_more p m class items count k v h e =
+    rw (e, item_written_last class k (item_at p m.store items k) (so_far (item_at p m.store items) count k) m.store, so_far_more (item_at p m.store items) count k h) refl

@@ -1,0 +1,43 @@
+// How many elements an Interval has, and which.
+ghost use Rattle.std.specs.Prelude.{◌≡◌, ℕ, ◌+◌, ◌-◌, ◌<◌, ◌≤◌, ◌^◌, pos, ◌+ℤ◌, ◌*ℤ◌};
+ghost use Rattle.st_collections.specs.Kinds.{interval_size};
+
+/// How many elements it has. By 0 it counts one.
+#[tactic(auto, unfolding(crate::specs::Kinds::interval_size))]
+pub fn interval_length(start: i128, stop: i128, by: i128) -> u128
+    requires { interval_size start stop by < 2 ^ 127 }
+    ensures { result ≡ interval_size start stop by }
+{
+    if by < 0 {
+        if start < stop {
+            return 0;
+        }
+        return start.abs_diff(stop) / by.unsigned_abs() + 1;
+    }
+    if stop < start {
+        return 0;
+    }
+    if by == 0 {
+        return 1;
+    }
+    stop.abs_diff(start) / by.unsigned_abs() + 1
+}
+
+/// The element at a place, from 0.
+#[tactic(auto, unfolding(crate::specs::Kinds::interval_size))]
+pub fn interval_element(start: i128, stop: i128, by: i128, place: u128) -> i128
+    requires few { interval_size start stop by < 2 ^ 127 }
+    requires within { place ≤ interval_size start stop by - 1 }
+    ensures { result ≡ start +ℤ pos place *ℤ by }
+{
+    let distance = place * by.unsigned_abs();
+    let reached = if by < 0 {
+        start.checked_sub_unsigned(distance)
+    } else {
+        start.checked_add_unsigned(distance)
+    };
+    match reached {
+        Some(element) => element,
+        None => unreachable!(),
+    }
+}
