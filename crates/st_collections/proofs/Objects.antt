@@ -1,15 +1,20 @@
 -- A new object, its items written one after another.
-use Rattle.std.proofs.Common.{zero, suc, None, ◌≡◌, ℕ, ◌+◌, ◌-◌, ◌<◌, ◌≤◌, Bool, true, false, ◌||◌, List, [], ◌∷◌, ◌++◌, map, length, replicate, set, nat_eq, sym, refl, ap, ◌∙◌, arith, if◌then◌else◌}
+use Rattle.std.proofs.Common.{zero, suc, None, Result, Ok, Err, add-zero, nat_le, ◌≡◌, ℕ, ◌+◌, ◌-◌, ◌<◌, ◌≤◌, Bool, true, false, ◌||◌, List, [], ◌∷◌, ◌++◌, map, length, replicate, set, nat_eq, sym, refl, ap, ◌∙◌, arith, if◌then◌else◌}
+use borrow.Author.Tests.{eqb-true, leb-true, le-leb}
 use Rattle.std.specs.List.{range_with_len}
 use Rattle.std.proofs.lemmas.List.{get_or_at, set_at, map-set, length-set, length-replicate, length-append, length-map, append_assoc, append-nil}
 use Rattle.std.proofs.lemmas.List.FromFn.{map-range_with_len_more, length-map-range_with_len}
 use Rattle.object_heap.specs.declared.value.Value.{Value}
 use Rattle.object_heap.specs.declared.value.Value.TheVariants.{Nil}
 use Rattle.object_heap.specs.Store.{Store, Object, no_object, object_at, object_set, object_added, blank_object, with_slot, with_byte, slot_written, byte_written}
-use Rattle.object_heap.specs.Charges.{Memory, object_charge, charged, made, with_store}
+use Rattle.object_heap.specs.declared.heap.HeapStop.{HeapStop}
+use Rattle.object_heap.specs.declared.heap.HeapStop.TheVariants.{Limit, OutOfMemory}
+use Rattle.object_heap.specs.Charges.{if_out, Memory, object_charge, charged, made, with_store}
 use Rattle.st_code.specs.BuiltIns.{string_class, byte_array_class}
 use Rattle.st_code.specs.Program.{Program}
 use Rattle.st_collections.specs.Actions.{Action, Makes, new_object, next_object, makes_slots, makes_bytes, with_new}
+use Rattle.st_collections.specs.Answers.{told, allot_answer, answer_of, memory_of, stop_answer, unless_out}
+use Rattle.st_collections.specs.declared.answer.Built.{Built}
 use Rattle.st_collections.specs.TextRows.{byte_of}
 use Rattle.st_collections.specs.SequenceRows.{byte_in, makes_sequence}
 use Rattle.st_collections.specs.declared.items.Items.{Items}
@@ -105,3 +110,60 @@ filled p m class items count k = record {
 pub filled_more : (p : Program) (m : Memory) (class : ℕ) (items : Items) (count k : ℕ) (v : Value) → k < count → v ≡ item_at p m.store items k → with_store (item_written class (length m.store.objects) k v (filled p m class items count k).store) (filled p m class items count k) ≡ filled p m class items count (k + 1)
 filled_more p m class items count k v h e =
     rw (e, item_written_last class k (item_at p m.store items k) (so_far (item_at p m.store items) count k) m.store, so_far_more (item_at p m.store items) count k h) refl
+
+-- ---- the action, and what is left of it
+
+charge_held : Bool → Bool → ℕ → ℕ
+charge_held t b count = if t || b then object_charge 0 count else object_charge count 0
+
+makes_held : (t b : Bool) (class : ℕ) (items : List Value) (s : Store) → nat_eq class string_class ≡ t → nat_eq class byte_array_class ≡ b → (if t then makes_bytes string_class (map byte_of items) s else (if b then makes_bytes byte_array_class (map byte_in items) s else makes_slots class items s)) ≡ Makes (charge_held t b (length items)) (object_added (held t b class items) s) (next_object s)
+unfolding held charge_held makes_bytes makes_slots with_new
+makes_held true b class items s e e' = rw (eqb-true class string_class e, length-map items byte_of) refl
+makes_held false true class items s e e' = rw (eqb-true class byte_array_class e', length-map items byte_in) refl
+makes_held false false class items s e e' = ap (λ (cells : ℕ). Makes cells (object_added (new_object class items []) s) (next_object s)) (sym (add-zero (1 + length items)))
+
+pub makes_sequence-is : (class : ℕ) (items : List Value) (s : Store) → makes_sequence class items s ≡ Makes (sequence_charge class (length items)) (object_added (sequence_object class items) s) (next_object s)
+unfolding makes_sequence held charge_held
+makes_sequence-is class items s = makes_held (nat_eq class string_class) (nat_eq class byte_array_class) class items s refl refl
+
+-- the same, where the items are made by place
+pub makes_items-is : (p : Program) (class : ℕ) (items : Items) (count : ℕ) (s : Store) → makes_sequence class (items_of p s items count) s ≡ Makes (sequence_charge class count) (object_added (sequence_object class (items_of p s items count)) s) (next_object s)
+makes_items-is p class items count s = rw (makes_sequence-is class (items_of p s items count) s, length-map-range_with_len (item_at p s items) 0 count) refl
+
+pub filled_all : (p : Program) (m : Memory) (class : ℕ) (items : Items) (count : ℕ) → m.used + sequence_charge class count ≤ m.limit → filled p m class items count count ≡ memory_of (makes_sequence class (items_of p m.store items count) m.store) m
+filled_all p m class items count h = rw (makes_items-is p class items count m.store, le-leb (m.used + sequence_charge class count) m.limit h, so_far_all (item_at p m.store items) count) refl
+
+pub filled_answer : (p : Program) (m : Memory) (class : ℕ) (items : Items) (count n : ℕ) → n ≡ length m.store.objects → m.used + sequence_charge class count ≤ m.limit → Built.Value (Value.Object n) ≡ answer_of (makes_sequence class (items_of p m.store items count) m.store) m
+filled_answer p m class items count n e h = rw (e, makes_items-is p class items count m.store, le-leb (m.used + sequence_charge class count) m.limit h) refl
+
+-- ---- a heap that made nothing
+
+stop_limit : (b : Bool) (u c n : ℕ) (charge : ℕ) (m m' : Memory) → Err (Limit u c) ≡ (if b then Ok n else Err (Limit m.used (told charge))) → (if b then m' else m) ≡ m
+stop_limit true u c n charge m m' e = cc
+stop_limit false u c n charge m m' e = refl
+
+stop_told : (b : Bool) (u c n : ℕ) (charge : ℕ) (m : Memory) (v : Value) → Err (Limit u c) ≡ (if b then Ok n else Err (Limit m.used (told charge))) → Built.Cells u c ≡ (if b then Built.Value v else Built.Cells m.used (told charge))
+stop_told true u c n charge m v e = cc
+stop_told false u c n charge m v e = cc
+
+pub stop_memory : (stop : HeapStop) (m m' : Memory) (charge : ℕ) (s' s : Store) (v : Value) → m' ≡ if_out {A = ℕ} (Err stop) m (charged charge s' m) → Err stop ≡ if_out {A = ℕ} (Err stop) (Err stop) (allot_answer charge m) → m' ≡ unless_out (stop_answer stop) m (memory_of (Makes charge s v) m)
+stop_memory (Limit u c) m m' charge s' s v e a =
+    let b = nat_le (m.used + charge) m.limit in
+    let n = length m.store.objects in
+    (e ∙ stop_limit b u c n charge m (record { store = s'; used = m.used + charge; limit = m.limit }) a)
+    ∙ sym (stop_limit b u c n charge m (record { store = s; used = m.used + charge; limit = m.limit }) a)
+stop_memory OutOfMemory m m' charge s' s v e a = e
+
+pub stop_answer-is : (stop : HeapStop) (m : Memory) (charge : ℕ) (s : Store) (v : Value) → Err stop ≡ if_out {A = ℕ} (Err stop) (Err stop) (allot_answer charge m) → stop_answer stop ≡ unless_out (stop_answer stop) (stop_answer stop) (answer_of (Makes charge s v) m)
+stop_answer-is (Limit u c) m charge s v a = stop_told (nat_le (m.used + charge) m.limit) u c (length m.store.objects) charge m v a
+stop_answer-is OutOfMemory m charge s v a = refl
+
+-- a charge that was taken was within the limit
+paid_cases : (b : Bool) (n n' : ℕ) (charge : ℕ) (m : Memory) → (if b then Ok n' else Err (Limit m.used (told charge))) ≡ Ok n → (b ≡ true) × (n ≡ n')
+paid_cases true n n' charge m e = (refl, cc)
+paid_cases false n n' charge m e = cc
+
+pub paid_of : (n : ℕ) (charge : ℕ) (m : Memory) → Ok n ≡ if_out (Ok n) (Ok n) (allot_answer charge m) → (m.used + charge ≤ m.limit) × (n ≡ length m.store.objects)
+paid_of n charge m e =
+    let h = paid_cases (nat_le (m.used + charge) m.limit) n (length m.store.objects) charge m (sym e) in
+    (leb-true (m.used + charge) m.limit h.0, h.1)
