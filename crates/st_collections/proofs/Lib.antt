@@ -1,3 +1,4 @@
 pub mod Bytes
 pub mod Objects
+pub mod Reaches
 pub mod Steady

@@ -1,8 +1,8 @@
 -- A new object, its items written one after another.
-use Rattle.std.proofs.Common.{zero, suc, None, Result, Ok, Err, add-zero, nat_le, ◌≡◌, ℕ, ◌+◌, ◌-◌, ◌<◌, ◌≤◌, Bool, true, false, ◌||◌, List, [], ◌∷◌, ◌++◌, map, length, replicate, set, nat_eq, sym, refl, ap, ◌∙◌, arith, if◌then◌else◌}
+use Rattle.std.proofs.Common.{zero, suc, None, Ok, Err, add-zero, nat_le, ◌≡◌, ℕ, ◌+◌, ◌-◌, ◌<◌, ◌≤◌, Bool, true, false, ◌||◌, List, [], ◌∷◌, ◌++◌, map, length, replicate, set, nat_eq, sym, refl, ap, ◌∙◌, arith, if◌then◌else◌}
 use borrow.Author.Tests.{eqb-true, leb-true, le-leb}
 use Rattle.std.specs.List.{range_with_len}
-use Rattle.std.proofs.lemmas.List.{get_or_at, set_at, map-set, length-set, length-replicate, length-append, length-map, append_assoc, append-nil}
+use Rattle.std.proofs.lemmas.List.{get_or_at, set_at, map-set, length-set, length-replicate, length-map, append_assoc, append-nil}
 use Rattle.std.proofs.lemmas.List.FromFn.{map-range_with_len_more, length-map-range_with_len}
 use Rattle.object_heap.specs.declared.value.Value.{Value}
 use Rattle.object_heap.specs.declared.value.Value.TheVariants.{Nil}
@@ -12,7 +12,7 @@ use Rattle.object_heap.specs.declared.heap.HeapStop.TheVariants.{Limit, OutOfMem
 use Rattle.object_heap.specs.Charges.{if_out, Memory, object_charge, charged, made, with_store}
 use Rattle.st_code.specs.BuiltIns.{string_class, byte_array_class}
 use Rattle.st_code.specs.Program.{Program}
-use Rattle.st_collections.specs.Actions.{Action, Makes, new_object, next_object, makes_slots, makes_bytes, with_new}
+use Rattle.st_collections.specs.Actions.{Makes, new_object, next_object, makes_slots, makes_bytes, with_new}
 use Rattle.st_collections.specs.Answers.{told, allot_answer, answer_of, memory_of, stop_answer, unless_out}
 use Rattle.st_collections.specs.declared.answer.Built.{Built}
 use Rattle.st_collections.specs.TextRows.{byte_of}
@@ -104,7 +104,7 @@ abbrev pub filled : Program → Memory → ℕ → Items → ℕ → ℕ → Mem
 filled p m class items count k = record {
   store = object_added (sequence_object class (so_far (item_at p m.store items) count k)) m.store;
   used = m.used + sequence_charge class count;
-  limit = m.limit
+  limit = m.limit;
 }
 
 pub filled_more : (p : Program) (m : Memory) (class : ℕ) (items : Items) (count k : ℕ) (v : Value) → k < count → v ≡ item_at p m.store items k → with_store (item_written class (length m.store.objects) k v (filled p m class items count k).store) (filled p m class items count k) ≡ filled p m class items count (k + 1)

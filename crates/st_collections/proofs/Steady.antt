@@ -1,8 +1,7 @@
 -- What is read of a store doesn't change where an object is added to it.
-use Rattle.std.proofs.Common.{◌≡◌, ℕ, ◌+◌, ◌-◌, ◌<◌, ◌≤◌, suc, length-append, if◌then◌else◌, Bool, true, false, List, [], ◌∷◌, ◌++◌, length, nat_eq, nat_lt, cond, refl, ap, sym, subst, ◌∙◌, inl, inr, ⊎_elim, arith}
+use Rattle.std.proofs.Common.{◌≡◌, ℕ, ◌+◌, ◌-◌, ◌<◌, length-append, if◌then◌else◌, Bool, true, false, [], ◌∷◌, length, nat_eq, nat_lt, refl, ap, arith}
 use borrow.Author.Tests.{ltb-true, ltb-false}
 use Rattle.std.proofs.lemmas.List.{get_or_append_left}
-use Rattle.std.proofs.lemmas.Bool.{cases_Bool}
 use Rattle.object_heap.specs.declared.value.Value.{Value}
 use Rattle.object_heap.specs.declared.value.Value.TheVariants.{Nil, True, False, Integer, Character, Symbol, Class, Meta, Transcript, Object}
 use Rattle.object_heap.specs.Store.{Store, Object as HeapObject, no_object, object_at, object_added}
@@ -88,7 +87,7 @@ pub index_steady : (p : Program) (v : Value) (i : ℕ) (o : HeapObject) (s : Sto
 index_steady p v i o s h = record {
   within = rw (size_steady p v o s h.known) h.within;
   bound = rw (size_steady p v o s h.known) h.bound;
-  known = known_steady v o s h.known
+  known = known_steady v o s h.known;
 }
 
 -- ---- items

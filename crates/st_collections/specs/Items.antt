@@ -1,5 +1,5 @@
 -- The items of a new collection, by their places from 0, and the object that holds them.
-use Rattle.std.specs.Prelude.{ℕ, ◌+◌, ◌-◌, ◌<◌, ◌≤◌, ◌^◌, pos, Bool, true, false, List, [], ◌∷◌, map, length, Some, None, nat_eq, nat_lt, ◌||◌, ◌≡◌, if◌then◌else◌}
+use Rattle.std.specs.Prelude.{ℕ, ◌+◌, ◌-◌, ◌<◌, ◌≤◌, ◌^◌, Bool, false, List, [], map, length, nat_eq, nat_lt, ◌||◌, ◌≡◌, if◌then◌else◌}
 use Rattle.std.specs.List.{range_with_len}
 use Rattle.object_heap.specs.declared.value.Value.{Value}
 use Rattle.object_heap.specs.declared.value.Value.TheVariants.{Character, Object}

@@ -40,12 +40,7 @@ fn character(value: Value) -> Built
 }
 
 /// What a Character or its class answers.
-#[tactic(auto, unfolding(
-    crate::specs::TextRows::character_action,
-    crate::specs::SequenceRows::makes_sequence,
-    crate::specs::Actions::makes_string,
-    crate::specs::Actions::makes_bytes
-))]
+#[tactic(auto, unfolding(crate::specs::TextRows::character_action, crate::specs::SequenceRows::makes_sequence, crate::specs::Actions::makes_string, crate::specs::Actions::makes_bytes))]
 pub fn character_message<H: Heap>(
     heap: &mut H,
     names: &Names,

@@ -1,5 +1,6 @@
 // How many elements an Interval has, and which.
-ghost use Rattle.std.specs.Prelude.{◌≡◌, ℕ, ◌+◌, ◌-◌, ◌<◌, ◌≤◌, ◌^◌, pos, ◌+ℤ◌, ◌*ℤ◌};
+ghost use Rattle.std.specs.Prelude.{◌≡◌, ℕ, ◌+◌, ◌-◌, ◌<◌, ◌≤◌, ◌^◌, pos, ◌+ℤ◌, ◌-ℤ◌, ◌*ℤ◌, FitsSigned};
+ghost use Rattle.std.specs.Int.{w128};
 ghost use Rattle.st_collections.specs.Kinds.{interval_size};
 
 /// How many elements it has. By 0 it counts one.
@@ -23,21 +24,36 @@ pub fn interval_length(start: i128, stop: i128, by: i128) -> u128
     stop.abs_diff(start) / by.unsigned_abs() + 1
 }
 
+// So far above a number.
+fn number_above(start: i128, distance: u128) -> i128
+    requires { FitsSigned w128 (start +ℤ pos distance) }
+    ensures { result ≡ start +ℤ pos distance }
+{
+    match start.checked_add_unsigned(distance) {
+        Some(number) => number,
+        None => unreachable!(),
+    }
+}
+
+// So far below a number.
+fn number_below(start: i128, distance: u128) -> i128
+    requires { FitsSigned w128 (start -ℤ pos distance) }
+    ensures { result ≡ start -ℤ pos distance }
+{
+    match start.checked_sub_unsigned(distance) {
+        Some(number) => number,
+        None => unreachable!(),
+    }
+}
+
 /// The element at a place, from 0.
-#[tactic(auto, unfolding(crate::specs::Kinds::interval_size))]
 pub fn interval_element(start: i128, stop: i128, by: i128, place: u128) -> i128
-    requires few { interval_size start stop by < 2 ^ 127 }
-    requires within { place ≤ interval_size start stop by - 1 }
+    requires { place ≤ interval_size start stop by - 1 }
     ensures { result ≡ start +ℤ pos place *ℤ by }
 {
     let distance = place * by.unsigned_abs();
-    let reached = if by < 0 {
-        start.checked_sub_unsigned(distance)
-    } else {
-        start.checked_add_unsigned(distance)
-    };
-    match reached {
-        Some(element) => element,
-        None => unreachable!(),
+    if by < 0 {
+        return number_below(start, distance);
     }
+    number_above(start, distance)
 }
