@@ -2,3 +2,5 @@ pub mod Bytes
 pub mod Objects
 pub mod Reaches
 pub mod Steady
+pub mod TextItems
+pub mod TextOrders

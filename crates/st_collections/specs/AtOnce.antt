@@ -3,11 +3,12 @@ use Rattle.std.specs.Prelude.{List}
 use Rattle.object_heap.specs.declared.value.Value.{Value}
 use Rattle.object_heap.specs.Store.{Store}
 use Rattle.st_code.specs.Program.{Program}
-use Rattle.st_code.specs.Messages.{CharacterMessage}
+use Rattle.st_code.specs.Messages.{CharacterMessage, StringMessage}
 use Rattle.st_collections.specs.declared.message.CollectionMessage.{CollectionMessage}
 use Rattle.st_collections.specs.declared.message.OfCharacter.{OfCharacter}
+use Rattle.st_collections.specs.declared.message.OfString.{OfString}
 use Rattle.st_collections.specs.Actions.{Action}
-use Rattle.st_collections.specs.TextRows.{character_action}
+use Rattle.st_collections.specs.TextRows.{character_action, string_action}
 
 -- the row of a message of Characters
 abbrev pub character_row : OfCharacter → CharacterMessage
@@ -30,6 +31,20 @@ character_row OfCharacter.Greater = CharacterMessage.Greater
 character_row OfCharacter.LessOrEqual = CharacterMessage.LessOrEqual
 character_row OfCharacter.GreaterOrEqual = CharacterMessage.GreaterOrEqual
 
+-- the row of a message of Strings
+abbrev pub string_row : OfString → StringMessage
+string_row OfString.Equal = StringMessage.Equal
+string_row OfString.Less = StringMessage.Less
+string_row OfString.Greater = StringMessage.Greater
+string_row OfString.LessOrEqual = StringMessage.LessOrEqual
+string_row OfString.GreaterOrEqual = StringMessage.GreaterOrEqual
+string_row OfString.AsUppercase = StringMessage.AsUppercase
+string_row OfString.AsLowercase = StringMessage.AsLowercase
+string_row OfString.AsString = StringMessage.AsString
+string_row OfString.SameAs = StringMessage.SameAs
+string_row OfString.NewSize = StringMessage.NewSize
+
 -- what a message does
 abbrev pub action_of : Program → Store → CollectionMessage → Value → List Value → Action
 action_of p s (CollectionMessage.Character m) r args = character_action s (character_row m) r args
+action_of p s (CollectionMessage.String m) r args = string_action p s (string_row m) r args

@@ -6,4 +6,5 @@ pub mod Kinds
 pub mod ObjectRows
 pub mod TextRows
 pub mod SequenceRows
+pub mod Orders
 pub mod Loops

@@ -6,6 +6,7 @@ ghost use Rattle.st_collections.specs.AtOnce.{action_of};
 use crate::answer::Built;
 use crate::characters::character_message;
 use crate::message::CollectionMessage;
+use crate::strings::string_message;
 use object_heap::{Heap, Value};
 use st_names::Names;
 
@@ -26,5 +27,6 @@ pub fn collection_message<H: Heap>(
 {
     match message {
         CollectionMessage::Character(m) => character_message(heap, names, m, receiver, arguments),
+        CollectionMessage::String(m) => string_message(heap, names, m, receiver, arguments),
     }
 }

@@ -25,8 +25,8 @@ pub fn name_of(names: &Names, name: u32) -> &[u8]
     &[]
 }
 
-// A byte of a symbol's text, and 0 past its end.
-fn byte_of_name(names: &Names, name: u32, place: u128) -> u8
+/// A byte of a symbol's text, and 0 past its end.
+pub fn byte_of_name(names: &Names, name: u32, place: u128) -> u8
     ensures { result ≡ get_or (name_at (program_of names.now) name) place 0 }
 {
     let text = name_of(names, name);
@@ -36,8 +36,8 @@ fn byte_of_name(names: &Names, name: u32, place: u128) -> u8
     0
 }
 
-// A byte of an object, and 0 past its end.
-fn byte_of_object<H: Heap>(heap: &H, object: u32, place: u128) -> u8
+/// A byte of an object, and 0 past its end.
+pub fn byte_of_object<H: Heap>(heap: &H, object: u32, place: u128) -> u8
     ensures { result ≡ get_or (object_at object (H.meaning heap.now).store).bytes place 0 }
 {
     if place < heap.byte_length(object) as u128 {

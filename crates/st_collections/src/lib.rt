@@ -12,7 +12,9 @@ mod items;
 mod letters;
 mod makers;
 mod message;
+mod strings;
+mod texts;
 
 pub use answer::Built;
 pub use dispatch::collection_message;
-pub use message::{CollectionMessage, OfCharacter};
+pub use message::{CollectionMessage, OfCharacter, OfString};

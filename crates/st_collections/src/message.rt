@@ -4,6 +4,7 @@
 #[derive(Clone, Copy, Debug, PartialEq, Eq)]
 pub enum CollectionMessage {
     Character(OfCharacter),
+    String(OfString),
 }
 
 /// The messages of Character and its class (section 5.4).
@@ -45,4 +46,29 @@ pub enum OfCharacter {
     LessOrEqual,
     /// `>=`
     GreaterOrEqual,
+}
+
+/// The messages of String and its class, and those that Symbol inherits (section 5.7.10).
+#[derive(Clone, Copy, Debug, PartialEq, Eq)]
+pub enum OfString {
+    /// `=`
+    Equal,
+    /// `<`
+    Less,
+    /// `>`
+    Greater,
+    /// `<=`
+    LessOrEqual,
+    /// `>=`
+    GreaterOrEqual,
+    /// `asUppercase`
+    AsUppercase,
+    /// `asLowercase`
+    AsLowercase,
+    /// `asString`
+    AsString,
+    /// `sameAs:`
+    SameAs,
+    /// `new:` of the class
+    NewSize,
 }
