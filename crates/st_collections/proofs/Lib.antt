@@ -1,4 +1,5 @@
 pub mod Bytes
+pub mod ElementLists
 pub mod Objects
 pub mod Reaches
 pub mod Steady

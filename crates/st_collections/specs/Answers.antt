@@ -1,6 +1,10 @@
 -- What a call answers for the action of its message, and what it leaves of the memory.
-use Rattle.std.specs.Prelude.{ℕ, ◌+◌, ◌-◌, ◌^◌, min, Bool, true, false, List, [], length, Result, Ok, Err, nat_le, if◌then◌else◌}
+use Rattle.std.specs.Prelude.{ℕ, ◌+◌, ◌-◌, ◌^◌, min, Bool, true, false, List, [], length, Result, Ok, Err, pos, negsuc, nat_le, if◌then◌else◌}
+use Rattle.std.specs.Option.{ok_or}
 use Rattle.object_heap.specs.declared.value.Value.{Value}
+use Rattle.object_heap.specs.declared.value.Value.TheVariants.{Integer}
+use Rattle.object_heap.specs.declared.trouble.Trouble.{Trouble}
+use Rattle.object_heap.specs.declared.trouble.Trouble.TheVariants.{IndexOutOfRange, NumberExpected}
 use Rattle.object_heap.specs.declared.heap.HeapStop.{HeapStop}
 use Rattle.object_heap.specs.declared.heap.HeapStop.TheVariants.{Limit, OutOfMemory}
 use Rattle.object_heap.specs.Charges.{Memory, with_store, charged}
@@ -8,6 +12,7 @@ use Rattle.st_code.specs.Texts.{Text}
 use Rattle.st_code.specs.Program.{Program}
 use Rattle.st_collections.specs.declared.answer.Built.{Built}
 use Rattle.st_collections.specs.Actions.{Action, Gives, Changes, Makes, Fails, PassesIntegers}
+use Rattle.st_collections.specs.ObjectRows.{index_in}
 
 -- a program of these names: what a message does at once asks for no more of its program
 abbrev pub program_of : List Text → Program
@@ -52,3 +57,14 @@ allot_answer charge m = if nat_le (m.used + charge) m.limit then Ok (length m.st
 abbrev pub stop_answer : HeapStop → Built
 stop_answer (Limit used charge) = Built.Cells used charge
 stop_answer OutOfMemory = Built.OutOfMemory
+
+-- the place of an index from 1, or the trouble with it
+abbrev pub place_of_index : ℕ → Value → Result ℕ Trouble
+place_of_index size (Integer n) = ok_or (index_in size n) IndexOutOfRange
+place_of_index size v = Err NumberExpected
+
+-- a size, or the trouble with it
+abbrev pub size_result : Value → Result ℕ Trouble
+size_result (Integer (pos n)) = Ok n
+size_result (Integer (negsuc n)) = Err IndexOutOfRange
+size_result v = Err NumberExpected

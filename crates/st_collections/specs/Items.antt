@@ -9,10 +9,11 @@ use Rattle.st_code.specs.Texts.{to_upper, to_lower}
 use Rattle.st_code.specs.Program.{Program}
 use Rattle.st_code.specs.BuiltIns.{string_class, byte_array_class, interval_class}
 use Rattle.st_collections.specs.declared.items.Items.{Items}
+use Rattle.st_collections.specs.declared.kinds.ElementKind.{ElementKind}
 use Rattle.st_collections.specs.Actions.{new_object}
 use Rattle.st_collections.specs.Kinds.{is_a, size_of, size_at, element, key}
 use Rattle.st_collections.specs.TextRows.{byte_of}
-use Rattle.st_collections.specs.SequenceRows.{byte_in, is_byte}
+use Rattle.st_collections.specs.SequenceRows.{all_values, byte_in, is_byte, is_character}
 
 -- no Interval has 2^127 elements or more
 abbrev pub FewElements : Store → Type 0
@@ -83,3 +84,12 @@ abbrev pub item_written : ℕ → ℕ → ℕ → Value → Store → Store
 item_written class number k v s =
     if nat_eq class string_class then with_byte number k (byte_of v) s else
     (if nat_eq class byte_array_class then with_byte number k (byte_in v) s else with_slot number k v s)
+
+-- ---- kinds of elements
+
+abbrev pub is_of_kind : ElementKind → Value → Bool
+is_of_kind ElementKind.Character v = is_character v
+is_of_kind ElementKind.Byte v = is_byte v
+
+abbrev pub all_of_kind : ElementKind → List Value → Bool
+all_of_kind kind items = all_values (is_of_kind kind) items

@@ -2,10 +2,12 @@
 ghost use Rattle.std.specs.Prelude.{◌≡◌, false, IsTrue};
 ghost use Rattle.st_collections.specs.Answers.{program_of, answer_of, memory_of, is_out, unless_out};
 ghost use Rattle.st_collections.specs.AtOnce.{action_of};
+ghost use Rattle.st_collections.specs.Items.{FewElements};
 
 use crate::answer::Built;
 use crate::characters::character_message;
 use crate::message::CollectionMessage;
+use crate::sequences::sequence_message;
 use crate::strings::string_message;
 use object_heap::{Heap, Value};
 use st_names::Names;
@@ -20,6 +22,7 @@ pub fn collection_message<H: Heap>(
     receiver: Value,
     arguments: &[Value],
 ) -> Built
+    requires { FewElements (H.meaning heap.old).store }
     ensures memory { H.meaning heap.new ≡ unless_out result (H.meaning heap.old) (memory_of (action_of (program_of names.now) (H.meaning heap.old).store message receiver arguments.now) (H.meaning heap.old)) }
     ensures answer { result ≡ unless_out result result (answer_of (action_of (program_of names.now) (H.meaning heap.old).store message receiver arguments.now) (H.meaning heap.old)) }
     ensures reserved { IsTrue H.reserved → is_out result ≡ false }
@@ -27,6 +30,7 @@ pub fn collection_message<H: Heap>(
 {
     match message {
         CollectionMessage::Character(m) => character_message(heap, names, m, receiver, arguments),
+        CollectionMessage::Sequence(m) => sequence_message(heap, names, m, receiver, arguments),
         CollectionMessage::String(m) => string_message(heap, names, m, receiver, arguments),
     }
 }

@@ -9,12 +9,15 @@ mod dispatch;
 mod elements;
 mod intervals;
 mod items;
+mod kinds;
 mod letters;
 mod makers;
 mod message;
+mod sequences;
 mod strings;
 mod texts;
+mod writes;
 
 pub use answer::Built;
 pub use dispatch::collection_message;
-pub use message::{CollectionMessage, OfCharacter, OfString};
+pub use message::{CollectionMessage, OfCharacter, OfSequence, OfString};

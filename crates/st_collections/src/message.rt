@@ -5,6 +5,7 @@
 pub enum CollectionMessage {
     Character(OfCharacter),
     String(OfString),
+    Sequence(OfSequence),
 }
 
 /// The messages of Character and its class (section 5.4).
@@ -71,4 +72,34 @@ pub enum OfString {
     SameAs,
     /// `new:` of the class
     NewSize,
+}
+
+/// The messages of all that has elements at indexes, three of which Sets and Dictionaries have too
+/// (section 5.7.8).
+#[derive(Clone, Copy, Debug, PartialEq, Eq)]
+pub enum OfSequence {
+    /// `at:`
+    At,
+    /// `size`
+    Size,
+    /// `isEmpty`
+    IsEmpty,
+    /// `notEmpty`
+    NotEmpty,
+    /// `first`
+    First,
+    /// `last`
+    Last,
+    /// `,`
+    Join,
+    /// `copyFrom:to:`
+    CopyFromTo,
+    /// `reverse`
+    Reverse,
+    /// `asArray`
+    AsArray,
+    /// `asOrderedCollection`
+    AsOrderedCollection,
+    /// `at:put:`
+    AtPut,
 }
