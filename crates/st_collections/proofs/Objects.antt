@@ -1,9 +1,9 @@
 -- A new object, its items written one after another.
-use Rattle.std.proofs.Common.{zero, suc, None, Ok, Err, add-zero, nat_le, ◌≡◌, ℕ, ◌+◌, ◌-◌, ◌<◌, ◌≤◌, Bool, true, false, ◌||◌, List, [], ◌∷◌, ◌++◌, map, length, replicate, set, nat_eq, sym, refl, ap, ◌∙◌, arith, if◌then◌else◌}
+use Rattle.std.proofs.Common.{zero, suc, None, Ok, Err, add-zero, nat_le, ◌≡◌, ℕ, ◌+◌, ◌-◌, ◌<◌, ◌≤◌, Bool, true, false, ◌||◌, List, [], ◌∷◌, ◌++◌, map, get_or, length, replicate, set, nat_eq, sym, refl, ap, ◌∙◌, arith, if◌then◌else◌}
 use borrow.Author.Tests.{eqb-true, leb-true, le-leb}
 use Rattle.std.specs.List.{range_with_len}
 use Rattle.std.proofs.lemmas.List.{get_or_at, set_at, map-set, length-set, length-replicate, length-map, append_assoc, append-nil}
-use Rattle.std.proofs.lemmas.List.FromFn.{map-range_with_len_more, length-map-range_with_len}
+use Rattle.std.proofs.lemmas.List.FromFn.{fill_by_all, map-range_with_len_more, length-map-range_with_len}
 use Rattle.object_heap.specs.declared.value.Value.{Value}
 use Rattle.object_heap.specs.declared.value.Value.TheVariants.{Nil}
 use Rattle.object_heap.specs.Store.{Store, Object, no_object, object_at, object_set, object_added, blank_object, with_slot, with_byte, slot_written, byte_written}
@@ -167,3 +167,42 @@ pub paid_of : (n : ℕ) (charge : ℕ) (m : Memory) → Ok n ≡ if_out (Ok n) (
 paid_of n charge m e =
     let h = paid_cases (nat_le (m.used + charge) m.limit) n (length m.store.objects) charge m (sym e) in
     (leb-true (m.used + charge) m.limit h.0, h.1)
+
+-- ---- objects of values
+
+pub made_slots : (class n : ℕ) (m : Memory) → made class n 0 m ≡ charged (1 + n) (object_added (new_object class (replicate n Nil) []) m.store) m
+made_slots class n m =
+    let size : object_charge n 0 ≡ 1 + n = add-zero (1 + n) in
+    let o : blank_object class n 0 ≡ new_object class (replicate n Nil) [] = ap (λ (k : ℕ). record { class = class; slots = replicate n Nil; bytes = []; capacity = k; read_only = false; closure = None }) (sym (length-replicate n Nil)) in
+    rw (size, o) refl
+
+pub slot_written_last : (class k : ℕ) (v : Value) (items : List Value) (s : Store) → with_slot (length s.objects) k v (object_added (new_object class items []) s) ≡ object_added (new_object class (set items k v) []) s
+unfolding held held_written
+slot_written_last class k v items s = written_held false false class k v items s
+
+-- the memory where so many values were written
+abbrev pub slots_filled : Memory → ℕ → List Value → ℕ → ℕ → Memory
+slots_filled m class values count k = record {
+  store = object_added (new_object class (so_far (λ i. get_or values i Nil) count k) []) m.store;
+  used = m.used + (1 + count);
+  limit = m.limit;
+}
+
+pub slots_more : (m : Memory) (class : ℕ) (values : List Value) (count k : ℕ) (v : Value) → k < count → v ≡ get_or values k Nil → with_store (with_slot (length m.store.objects) k v (slots_filled m class values count k).store) (slots_filled m class values count k) ≡ slots_filled m class values count (k + 1)
+slots_more m class values count k v h e =
+    rw (e, slot_written_last class k (get_or values k Nil) (so_far (λ i. get_or values i Nil) count k) m.store, so_far_more (λ i. get_or values i Nil) count k h) refl
+
+values_all : (values : List Value) (count : ℕ) → length values ≡ count → so_far (λ i. get_or values i Nil) count count ≡ values
+values_all values count e = so_far_all (λ i. get_or values i Nil) count ∙ sym (fill_by_all (λ i. get_or values i Nil) values count Nil e (λ k h. refl))
+
+pub slots_all : (m : Memory) (class : ℕ) (values : List Value) (count : ℕ) → length values ≡ count → m.used + (1 + count) ≤ m.limit → slots_filled m class values count count ≡ memory_of (makes_slots class values m.store) m
+unfolding makes_slots with_new
+slots_all m class values count e h = rw (values_all values count e, e, le-leb (m.used + (1 + count)) m.limit h) refl
+
+pub slots_answer : (m : Memory) (class : ℕ) (values : List Value) (count n : ℕ) → length values ≡ count → n ≡ length m.store.objects → m.used + (1 + count) ≤ m.limit → Built.Value (Value.Object n) ≡ answer_of (makes_slots class values m.store) m
+unfolding makes_slots
+slots_answer m class values count n e e' h = rw (e, e', le-leb (m.used + (1 + count)) m.limit h) refl
+
+pub makes_slots-is : (class : ℕ) (values : List Value) (count : ℕ) (s : Store) → length values ≡ count → makes_slots class values s ≡ Makes (1 + count) (with_new class values [] s) (next_object s)
+unfolding makes_slots
+makes_slots-is class values count s e = rw e refl

@@ -1,5 +1,5 @@
 -- What is read of a store doesn't change where an object is added to it.
-use Rattle.std.proofs.Common.{◌≡◌, ℕ, ◌+◌, ◌-◌, ◌<◌, length-append, if◌then◌else◌, Bool, true, false, [], ◌∷◌, length, nat_eq, nat_lt, refl, ap, arith}
+use Rattle.std.proofs.Common.{◌≡◌, ℕ, ◌+◌, ◌-◌, ◌<◌, length-append, if◌then◌else◌, Bool, true, false, [], ◌∷◌, length, nat_eq, nat_lt, refl, ap, arith, ◌*◌}
 use borrow.Author.Tests.{ltb-true, ltb-false}
 use Rattle.std.proofs.lemmas.List.{get_or_append_left}
 use Rattle.object_heap.specs.declared.value.Value.{Value}
@@ -58,6 +58,10 @@ pub key_steady : (v : Value) (i : ℕ) (o : HeapObject) (s : Store) → IsKnown 
 unfolding key slot_of
 key_steady v i o s h = rw (slots_steady v o s h) refl
 
+pub slot_steady : (v : Value) (i : ℕ) (o : HeapObject) (s : Store) → IsKnown s v → slot_of (object_added o s) v i ≡ slot_of s v i
+unfolding slot_of
+slot_steady v i o s h = rw (slots_steady v o s h) refl
+
 pub is_a_steady : (class : ℕ) (v : Value) (o : HeapObject) (s : Store) → IsKnown s v → is_a (object_added o s) class v ≡ is_a s class v
 unfolding is_a
 is_a_steady class (Object n) o s h = ap (λ (x : HeapObject). nat_eq x.class class) (object_steady n o s h)
@@ -97,6 +101,7 @@ reads_steady p (Items.From v from) k o s h = index_steady p v (from + k) o s h
 reads_steady p (Items.Backwards v last) k o s h = index_steady p v (last - k) o s h
 reads_steady p (Items.Joined v size w) k o s h = ((λ low. index_steady p v (k + 1) o s (h.0 low)), (λ high. index_steady p w (k - size + 1) o s (h.1 high)))
 reads_steady p (Items.Keys v) k o s h = known_steady v o s h
+reads_steady p (Items.Values v) k o s h = known_steady v o s h
 reads_steady p (Items.Upper v) k o s h = index_steady p v (k + 1) o s h
 reads_steady p (Items.Lower v) k o s h = index_steady p v (k + 1) o s h
 reads_steady p (Items.Repeated v) k o s h = tt
@@ -114,6 +119,7 @@ item_steady p (Items.From v from) k o s h = element_steady p v (from + k) o s h.
 item_steady p (Items.Backwards v last) k o s h = element_steady p v (last - k) o s h.known
 item_steady p (Items.Joined v size w) k o s h = joined_steady (nat_lt k size) k size p v w o s refl h
 item_steady p (Items.Keys v) k o s h = key_steady v (k + 1) o s h
+item_steady p (Items.Values v) k o s h = slot_steady v (2 * k + 1) o s h
 item_steady p (Items.Upper v) k o s h = ap (λ (x : Value). cased to_upper x) (element_steady p v (k + 1) o s h.known)
 item_steady p (Items.Lower v) k o s h = ap (λ (x : Value). cased to_lower x) (element_steady p v (k + 1) o s h.known)
 item_steady p (Items.Repeated v) k o s h = refl
@@ -123,6 +129,7 @@ from_bytes_steady p (Items.From v from) k o s h = is_a_steady byte_array_class v
 from_bytes_steady p (Items.Backwards v last) k o s h = is_a_steady byte_array_class v o s h.known
 from_bytes_steady p (Items.Joined v size w) k o s h = joined_bytes (nat_lt k size) k size p v w o s refl h
 from_bytes_steady p (Items.Keys v) k o s h = refl
+from_bytes_steady p (Items.Values v) k o s h = refl
 from_bytes_steady p (Items.Upper v) k o s h = refl
 from_bytes_steady p (Items.Lower v) k o s h = refl
 from_bytes_steady p (Items.Repeated v) k o s h = refl

@@ -1,16 +1,23 @@
 -- What the messages of this crate do, one by one, by the table of built-in messages.
-use Rattle.std.specs.Prelude.{List}
+use Rattle.std.specs.Prelude.{List, [], if◌then◌else◌}
 use Rattle.object_heap.specs.declared.value.Value.{Value}
+use Rattle.object_heap.specs.declared.trouble.Trouble.TheVariants.{CollectionExpected}
 use Rattle.object_heap.specs.Store.{Store}
+use Rattle.st_code.specs.BuiltIns.{array_class}
 use Rattle.st_code.specs.Program.{Program}
-use Rattle.st_code.specs.Messages.{CharacterMessage, StringMessage, SequenceMessage}
+use Rattle.st_code.specs.Messages.{CharacterMessage, StringMessage, SequenceMessage, ObjectMessage, CollectionMessage as CollectionRow}
 use Rattle.st_collections.specs.declared.message.CollectionMessage.{CollectionMessage}
 use Rattle.st_collections.specs.declared.message.OfCharacter.{OfCharacter}
+use Rattle.st_collections.specs.declared.message.OfMaking.{OfMaking}
+use Rattle.st_collections.specs.declared.message.OfPair.{OfPair}
 use Rattle.st_collections.specs.declared.message.OfSequence.{OfSequence}
 use Rattle.st_collections.specs.declared.message.OfString.{OfString}
-use Rattle.st_collections.specs.Actions.{Action}
+use Rattle.st_collections.specs.Actions.{Action, Gives, Fails, first, second, makes_slots}
 use Rattle.st_collections.specs.TextRows.{character_action, string_action}
-use Rattle.st_collections.specs.SequenceRows.{sequence_action}
+use Rattle.st_collections.specs.SequenceRows.{sequence_action, collection_action}
+use Rattle.st_collections.specs.ObjectRows.{object_action}
+use Rattle.st_collections.specs.IntervalRows.{to_action, to_by_action}
+use Rattle.st_collections.specs.Kinds.{elements, is_collection, slot_of}
 
 -- the row of a message of Characters
 abbrev pub character_row : OfCharacter → CharacterMessage
@@ -61,8 +68,33 @@ sequence_row OfSequence.AsArray = SequenceMessage.AsArray
 sequence_row OfSequence.AsOrderedCollection = SequenceMessage.AsOrderedCollection
 sequence_row OfSequence.AtPut = SequenceMessage.AtPut
 
+-- `withAll:`
+abbrev pub with_all : Program → Store → Value → Action
+with_all p s v = if is_collection s v then makes_slots array_class (elements p s v) s else Fails CollectionExpected
+
+-- messages that make a collection, an Association or an Interval
+abbrev pub making_action : Program → Store → OfMaking → Value → List Value → Action
+making_action p s OfMaking.Array r args = collection_action p s CollectionRow.NewArray r args
+making_action p s OfMaking.ByteArray r args = collection_action p s CollectionRow.NewByteArray r args
+making_action p s OfMaking.With r args = collection_action p s CollectionRow.With r args
+making_action p s OfMaking.WithAll r args = collection_action p s CollectionRow.WithAll r args
+making_action p s OfMaking.Empty r args = collection_action p s CollectionRow.NewEmpty r args
+making_action p s OfMaking.KeyValue r args = collection_action p s CollectionRow.KeyValue r args
+making_action p s OfMaking.Arrow r args = object_action p s ObjectMessage.Arrow r args
+making_action p s OfMaking.To r args = to_action s r (first args)
+making_action p s OfMaking.ToBy r args = to_by_action s r (first args) (second args)
+
+-- messages that read the pairs of Dictionaries and Associations
+abbrev pub pair_action : Program → Store → OfPair → Value → Action
+pair_action p s OfPair.Keys r = collection_action p s CollectionRow.Keys r []
+pair_action p s OfPair.Values r = collection_action p s CollectionRow.Values r []
+pair_action p s OfPair.Key r = Gives (slot_of s r 0)
+pair_action p s OfPair.Value r = Gives (slot_of s r 1)
+
 -- what a message does
 abbrev pub action_of : Program → Store → CollectionMessage → Value → List Value → Action
 action_of p s (CollectionMessage.Character m) r args = character_action s (character_row m) r args
 action_of p s (CollectionMessage.String m) r args = string_action p s (string_row m) r args
 action_of p s (CollectionMessage.Sequence m) r args = sequence_action p s (sequence_row m) r args
+action_of p s (CollectionMessage.Making m) r args = making_action p s m r args
+action_of p s (CollectionMessage.Pair m) r args = pair_action p s m r

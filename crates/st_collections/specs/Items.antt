@@ -1,5 +1,5 @@
 -- The items of a new collection, by their places from 0, and the object that holds them.
-use Rattle.std.specs.Prelude.{ℕ, ◌+◌, ◌-◌, ◌<◌, ◌≤◌, ◌^◌, Bool, false, List, [], map, length, nat_eq, nat_lt, ◌||◌, ◌≡◌, if◌then◌else◌}
+use Rattle.std.specs.Prelude.{ℕ, ◌+◌, ◌-◌, ◌*◌, ◌<◌, ◌≤◌, ◌^◌, Bool, false, List, [], map, length, nat_eq, nat_lt, ◌||◌, ◌≡◌, if◌then◌else◌}
 use Rattle.std.specs.List.{range_with_len}
 use Rattle.object_heap.specs.declared.value.Value.{Value}
 use Rattle.object_heap.specs.declared.value.Value.TheVariants.{Character, Object}
@@ -11,7 +11,7 @@ use Rattle.st_code.specs.BuiltIns.{string_class, byte_array_class, interval_clas
 use Rattle.st_collections.specs.declared.items.Items.{Items}
 use Rattle.st_collections.specs.declared.kinds.ElementKind.{ElementKind}
 use Rattle.st_collections.specs.Actions.{new_object}
-use Rattle.st_collections.specs.Kinds.{is_a, size_of, size_at, element, key}
+use Rattle.st_collections.specs.Kinds.{is_a, size_of, size_at, element, key, slot_of}
 use Rattle.st_collections.specs.TextRows.{byte_of}
 use Rattle.st_collections.specs.SequenceRows.{all_values, byte_in, is_byte, is_character}
 
@@ -30,6 +30,7 @@ item_at p s (Items.From v from) k = element p s v (from + k)
 item_at p s (Items.Backwards v last) k = element p s v (last - k)
 item_at p s (Items.Joined v size w) k = if nat_lt k size then element p s v (k + 1) else element p s w (k - size + 1)
 item_at p s (Items.Keys v) k = key s v (k + 1)
+item_at p s (Items.Values v) k = slot_of s v (2 * k + 1)
 item_at p s (Items.Upper v) k = cased to_upper (element p s v (k + 1))
 item_at p s (Items.Lower v) k = cased to_lower (element p s v (k + 1))
 item_at p s (Items.Repeated v) k = v
@@ -66,6 +67,7 @@ Reads p s (Items.From v from) k = IsIndex p s v (from + k)
 Reads p s (Items.Backwards v last) k = IsIndex p s v (last - k)
 Reads p s (Items.Joined v size w) k = (k < size → IsIndex p s v (k + 1)) × (size ≤ k → IsIndex p s w (k - size + 1))
 Reads p s (Items.Keys v) k = IsKnown s v
+Reads p s (Items.Values v) k = IsKnown s v
 Reads p s (Items.Upper v) k = IsIndex p s v (k + 1)
 Reads p s (Items.Lower v) k = IsIndex p s v (k + 1)
 Reads p s (Items.Repeated v) k = Unit {0}

@@ -1,6 +1,7 @@
 pub mod Actions
 pub mod Answers
 pub mod AtOnce
+pub mod IntervalRows
 pub mod Items
 pub mod Kinds
 pub mod ObjectRows

@@ -6,7 +6,9 @@ ghost use Rattle.st_collections.specs.Items.{FewElements};
 
 use crate::answer::Built;
 use crate::characters::character_message;
+use crate::making::making_message;
 use crate::message::CollectionMessage;
+use crate::pairs::pair_message;
 use crate::sequences::sequence_message;
 use crate::strings::string_message;
 use object_heap::{Heap, Value};
@@ -31,6 +33,8 @@ pub fn collection_message<H: Heap>(
     match message {
         CollectionMessage::Character(m) => character_message(heap, names, m, receiver, arguments),
         CollectionMessage::Sequence(m) => sequence_message(heap, names, m, receiver, arguments),
+        CollectionMessage::Making(m) => making_message(heap, names, m, receiver, arguments),
+        CollectionMessage::Pair(m) => pair_message(heap, names, m, receiver),
         CollectionMessage::String(m) => string_message(heap, names, m, receiver, arguments),
     }
 }

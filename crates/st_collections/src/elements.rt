@@ -6,7 +6,7 @@ ghost use Rattle.st_code.specs.BuiltIns.{byte_array_class, interval_class};
 ghost use Rattle.st_code.specs.Program.{name_at};
 ghost use Rattle.st_collections.specs.Answers.{program_of};
 ghost use Rattle.st_collections.specs.Items.{FewElements};
-ghost use Rattle.st_collections.specs.Kinds.{integer_of, is_a, size_at, size_of, element_at, element, key};
+ghost use Rattle.st_collections.specs.Kinds.{integer_of, is_a, size_at, size_of, element_at, element, key, slot_of, slots_of};
 ghost use Rattle.st_collections.specs.SequenceRows.{is_byte};
 
 use crate::classes::{BYTE_ARRAY, DICTIONARY, INTERVAL, STRING};
@@ -154,5 +154,27 @@ pub fn key_now<H: Heap>(heap: &H, value: Value, index: u128) -> Value
     match value {
         Value::Object(object) => slot_of_object(heap, object, (2 * index).saturating_sub(2)),
         _ => Value::Nil,
+    }
+}
+
+/// A slot of an object, by its place from 0, and nil past its end or of any other value.
+#[tactic(auto, unfolding(crate::specs::Kinds::slot_of, crate::specs::Kinds::slots_of))]
+pub fn slot_now<H: Heap>(heap: &H, value: Value, place: u128) -> Value
+    ensures { result ≡ slot_of (H.meaning heap.now).store value place }
+{
+    match value {
+        Value::Object(object) => slot_of_object(heap, object, place),
+        _ => Value::Nil,
+    }
+}
+
+/// How many slots an object has, none where it is no object.
+#[tactic(auto, unfolding(crate::specs::Kinds::slots_of))]
+pub fn slots_now<H: Heap>(heap: &H, value: Value) -> u32
+    ensures { result ≡ length (slots_of (H.meaning heap.now).store value) }
+{
+    match value {
+        Value::Object(object) => heap.length(object),
+        _ => 0,
     }
 }

@@ -1,5 +1,5 @@
 // How many elements an Interval has, and which.
-ghost use Rattle.std.specs.Prelude.{◌≡◌, ℕ, ◌+◌, ◌-◌, ◌<◌, ◌≤◌, ◌^◌, pos, ◌+ℤ◌, ◌-ℤ◌, ◌*ℤ◌, FitsSigned};
+ghost use Rattle.std.specs.Prelude.{◌≡◌, ℕ, ◌+◌, ◌-◌, ◌<◌, ◌≤◌, ◌^◌, pos, ◌+ℤ◌, ◌-ℤ◌, ◌*ℤ◌, FitsSigned, nat_lt};
 ghost use Rattle.std.specs.Int.{w128};
 ghost use Rattle.st_collections.specs.Kinds.{interval_size};
 
@@ -22,6 +22,21 @@ pub fn interval_length(start: i128, stop: i128, by: i128) -> u128
         return 1;
     }
     stop.abs_diff(start) / by.unsigned_abs() + 1
+}
+
+/// Whether it has less than 2^127 elements.
+#[tactic(auto, unfolding(crate::specs::Kinds::interval_size))]
+pub fn has_few_elements(start: i128, stop: i128, by: i128) -> bool
+    ensures { result ≡ nat_lt (interval_size start stop by) (2 ^ 127) }
+{
+    const MOST: u128 = i128::MAX as u128;
+    if by < 0 {
+        return start < stop || start.abs_diff(stop) / by.unsigned_abs() < MOST;
+    }
+    if by == 0 {
+        return true;
+    }
+    stop < start || stop.abs_diff(start) / by.unsigned_abs() < MOST
 }
 
 // So far above a number.

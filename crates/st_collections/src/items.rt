@@ -6,7 +6,7 @@ ghost use Rattle.st_collections.specs.Items.{cased, item_at, from_bytes, Reads};
 ghost use Rattle.st_collections.specs.SequenceRows.{is_byte};
 ghost use Rattle.st_code.specs.Texts.{to_upper, to_lower};
 
-use crate::elements::{element_now, key_now};
+use crate::elements::{element_now, key_now, slot_now};
 use crate::letters::{lower_of, upper_of};
 use object_heap::{Heap, Value};
 use st_names::Names;
@@ -22,6 +22,8 @@ pub enum Items {
     Joined(Value, u128, Value),
     /// The keys of a Dictionary.
     Keys(Value),
+    /// The values of a Dictionary.
+    Values(Value),
     /// The Characters of a text, each letter a capital one.
     Upper(Value),
     /// The Characters of a text, each letter a small one.
@@ -67,6 +69,7 @@ pub fn item_now<H: Heap>(heap: &H, names: &Names, items: Items, place: u32) -> V
             element_now(heap, names, other, place - size + 1)
         }
         Items::Keys(value) => key_now(heap, value, place + 1),
+        Items::Values(value) => slot_now(heap, value, 2 * place + 1),
         Items::Upper(value) => upper_value(element_now(heap, names, value, place + 1)),
         Items::Lower(value) => lower_value(element_now(heap, names, value, place + 1)),
         Items::Repeated(value) => value,

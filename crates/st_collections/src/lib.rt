@@ -12,7 +12,9 @@ mod items;
 mod kinds;
 mod letters;
 mod makers;
+mod making;
 mod message;
+mod pairs;
 mod sequences;
 mod strings;
 mod texts;
@@ -20,4 +22,4 @@ mod writes;
 
 pub use answer::Built;
 pub use dispatch::collection_message;
-pub use message::{CollectionMessage, OfCharacter, OfSequence, OfString};
+pub use message::{CollectionMessage, OfCharacter, OfMaking, OfPair, OfSequence, OfString};

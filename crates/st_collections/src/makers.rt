@@ -1,9 +1,10 @@
 // New objects: the charge first, then what they hold.
-ghost use Rattle.std.specs.Prelude.{◌≡◌, ℕ, ◌<◌, ◌^◌, false, ◌||◌, IsTrue, OnOk, replicate, nat_eq};
+ghost use Rattle.std.specs.Prelude.{◌≡◌, ℕ, ◌+◌, [], ◌<◌, ◌^◌, false, ◌||◌, IsTrue, OnOk, replicate, nat_eq};
 ghost use Rattle.object_heap.specs.declared.value.Value.{Value};
 ghost use Rattle.object_heap.specs.Store.{object_added};
 ghost use Rattle.object_heap.specs.Charges.{charged, if_out, ran_out, with_store};
 ghost use Rattle.st_code.specs.BuiltIns.{byte_array_class, string_class};
+ghost use Rattle.st_collections.specs.Actions.{makes_slots, new_object};
 ghost use Rattle.st_collections.specs.Answers.{program_of, allot_answer, answer_of, memory_of, is_out, told, unless_out};
 ghost use Rattle.st_collections.specs.Items.{item_at, items_of, is_byte_item, item_written, Reads, sequence_charge, sequence_object};
 ghost use Rattle.st_collections.specs.SequenceRows.{byte_in, is_byte, makes_sequence};
@@ -99,6 +100,40 @@ pub fn new_items<H: Heap>(
     for place in 0..count as u32 {
         let value = item_now(heap, names, items, place);
         put_item(heap, class, object, place, value);
+    }
+    Built::Value(Value::Object(object))
+}
+
+// A new object of so many slots, each nil.
+fn blank_slots<H: Heap>(heap: &mut H, class: u32, count: u128) -> Result<u32, HeapStop>
+    ensures made { H.meaning heap.new ≡ if_out result (H.meaning heap.old) (charged (1 + count) (object_added (new_object class (replicate count Value.Nil) []) (H.meaning heap.old).store) (H.meaning heap.old)) }
+    ensures answer { result ≡ if_out result result (allot_answer (1 + count) (H.meaning heap.old)) }
+    ensures fits { OnOk result (count < 2 ^ 32) }
+    ensures reserved { IsTrue H.reserved → ran_out result ≡ false }
+    ensures literals { H.literal_room heap.new ≡ H.literal_room heap.old }
+{
+    let charge = count.saturating_add(1);
+    let used = heap.used();
+    if charge > heap.limit() as u128 {
+        return Err(HeapStop::Limit { used, charge });
+    }
+    heap.make(class, count as u32, 0)
+}
+
+/// A new object of these values.
+pub fn new_values<H: Heap>(heap: &mut H, class: u32, values: &[Value]) -> Built
+    ensures memory { H.meaning heap.new ≡ unless_out result (H.meaning heap.old) (memory_of (makes_slots class values.now (H.meaning heap.old).store) (H.meaning heap.old)) }
+    ensures answer { result ≡ unless_out result result (answer_of (makes_slots class values.now (H.meaning heap.old).store) (H.meaning heap.old)) }
+    ensures reserved { IsTrue H.reserved → is_out result ≡ false }
+    ensures literals { H.literal_room heap.new ≡ H.literal_room heap.old }
+{
+    let object = match blank_slots(heap, class, values.len() as u128) {
+        Ok(object) => object,
+        Err(stop) => return answer_stop(stop),
+    };
+    for place in 0..values.len() {
+        let value = values[place];
+        heap.put(object, place as u32, value);
     }
     Built::Value(Value::Object(object))
 }

@@ -6,6 +6,8 @@ pub enum CollectionMessage {
     Character(OfCharacter),
     String(OfString),
     Sequence(OfSequence),
+    Making(OfMaking),
+    Pair(OfPair),
 }
 
 /// The messages of Character and its class (section 5.4).
@@ -102,4 +104,40 @@ pub enum OfSequence {
     AsOrderedCollection,
     /// `at:put:`
     AtPut,
+}
+
+/// The messages that make a collection, an Association or an Interval.
+#[derive(Clone, Copy, Debug, PartialEq, Eq)]
+pub enum OfMaking {
+    /// `new:` of class Array
+    Array,
+    /// `new:` of class ByteArray
+    ByteArray,
+    /// `with:` to `with:with:with:with:` of class Array
+    With,
+    /// `withAll:` of class Array
+    WithAll,
+    /// `new` and `new:` of class OrderedCollection, `new` of Set and Dictionary
+    Empty,
+    /// `key:value:` of class Association
+    KeyValue,
+    /// `->` of any object
+    Arrow,
+    /// `to:` of an Integer
+    To,
+    /// `to:by:` of an Integer
+    ToBy,
+}
+
+/// The messages of Dictionary and Association that read their pairs.
+#[derive(Clone, Copy, Debug, PartialEq, Eq)]
+pub enum OfPair {
+    /// `keys` of a Dictionary
+    Keys,
+    /// `values` of a Dictionary
+    Values,
+    /// `key` of an Association
+    Key,
+    /// `value` of an Association
+    Value,
 }
