@@ -15,9 +15,10 @@ use Rattle.st_collections.specs.Kinds.{is_a, size_of, size_at, element, key, slo
 use Rattle.st_collections.specs.TextRows.{byte_of}
 use Rattle.st_collections.specs.SequenceRows.{all_values, byte_in, is_byte, is_character}
 
--- no Interval has 2^127 elements or more
-abbrev pub FewElements : Store → Type 0
-FewElements s = (n : ℕ) → (object_at n s).class ≡ interval_class → size_at interval_class (object_at n s).slots (object_at n s).bytes < 2 ^ 127
+-- an Interval has less than 2^127 elements
+abbrev pub IsMeasured : Store → Value → Type 0
+IsMeasured s (Object n) = (object_at n s).class ≡ interval_class → size_at interval_class (object_at n s).slots (object_at n s).bytes < 2 ^ 127
+IsMeasured s v = Unit {0}
 
 -- a Character with another byte
 abbrev pub cased : (ℕ → ℕ) → Value → Value

@@ -1,8 +1,9 @@
 // What a message does at once.
 ghost use Rattle.std.specs.Prelude.{◌≡◌, false, IsTrue};
+ghost use Rattle.st_collections.specs.Actions.{first};
 ghost use Rattle.st_collections.specs.Answers.{program_of, answer_of, memory_of, is_out, unless_out};
 ghost use Rattle.st_collections.specs.AtOnce.{action_of};
-ghost use Rattle.st_collections.specs.Items.{FewElements};
+ghost use Rattle.st_collections.specs.Items.{IsMeasured};
 
 use crate::answer::Built;
 use crate::characters::character_message;
@@ -24,7 +25,8 @@ pub fn collection_message<H: Heap>(
     receiver: Value,
     arguments: &[Value],
 ) -> Built
-    requires { FewElements (H.meaning heap.old).store }
+    requires receiver { IsMeasured (H.meaning heap.old).store receiver }
+    requires argument { IsMeasured (H.meaning heap.old).store (first arguments.now) }
     ensures memory { H.meaning heap.new ≡ unless_out result (H.meaning heap.old) (memory_of (action_of (program_of names.now) (H.meaning heap.old).store message receiver arguments.now) (H.meaning heap.old)) }
     ensures answer { result ≡ unless_out result result (answer_of (action_of (program_of names.now) (H.meaning heap.old).store message receiver arguments.now) (H.meaning heap.old)) }
     ensures reserved { IsTrue H.reserved → is_out result ≡ false }

@@ -1,16 +1,16 @@
 // The size and the elements of a collection as it is now.
-ghost use Rattle.std.specs.Prelude.{◌≡◌, ℕ, ◌+◌, ◌-◌, ◌<◌, ◌≤◌, ◌^◌, ◌*◌, IsTrue, get_or, length};
+ghost use Rattle.std.specs.Prelude.{◌≡◌, ◌↔◌, ℕ, ◌+◌, ◌-◌, ◌<◌, ◌≤◌, ◌^◌, ◌*◌, IsTrue, get_or, length};
 ghost use Rattle.object_heap.specs.declared.value.Value.{Value};
 ghost use Rattle.object_heap.specs.Store.{object_at};
 ghost use Rattle.st_code.specs.BuiltIns.{byte_array_class, interval_class};
 ghost use Rattle.st_code.specs.Program.{name_at};
 ghost use Rattle.st_collections.specs.Answers.{program_of};
-ghost use Rattle.st_collections.specs.Items.{FewElements};
+ghost use Rattle.st_collections.specs.Items.{IsMeasured};
 ghost use Rattle.st_collections.specs.Kinds.{integer_of, is_a, size_at, size_of, element_at, element, key, slot_of, slots_of};
 ghost use Rattle.st_collections.specs.SequenceRows.{is_byte};
 
 use crate::classes::{BYTE_ARRAY, DICTIONARY, INTERVAL, STRING};
-use crate::intervals::{interval_element, interval_length};
+use crate::intervals::{has_few_elements, interval_element, interval_length};
 use object_heap::{Heap, Value};
 use st_names::Names;
 
@@ -68,7 +68,7 @@ pub fn integer_of_object<H: Heap>(heap: &H, object: u32, place: u128) -> i128
 
 // How many elements an object has.
 fn size_of_object<H: Heap>(heap: &H, object: u32) -> u128
-    requires { FewElements (H.meaning heap.now).store }
+    requires { IsMeasured (H.meaning heap.now).store (Value.Object object) }
     ensures size { let o = object_at object (H.meaning heap.now).store in result ≡ size_at o.class o.slots o.bytes }
     ensures bound { result < 2 ^ 127 }
 {
@@ -92,7 +92,7 @@ fn size_of_object<H: Heap>(heap: &H, object: u32) -> u128
 /// How many elements a collection has. What is no collection has none.
 #[tactic(auto, unfolding(crate::specs::Kinds::size_of))]
 pub fn size_now<H: Heap>(heap: &H, names: &Names, value: Value) -> u128
-    requires { FewElements (H.meaning heap.now).store }
+    requires { IsMeasured (H.meaning heap.now).store value }
     ensures size { result ≡ size_of (program_of names.now) (H.meaning heap.now).store value }
     ensures bound { result < 2 ^ 127 }
 {
@@ -176,5 +176,24 @@ pub fn slots_now<H: Heap>(heap: &H, value: Value) -> u32
     match value {
         Value::Object(object) => heap.length(object),
         _ => 0,
+    }
+}
+
+/// Whether a value is no Interval of 2^127 elements or more.
+pub fn is_measured<H: Heap>(heap: &H, value: Value) -> bool
+    ensures { IsTrue result ↔ IsMeasured (H.meaning heap.now).store value }
+{
+    match value {
+        Value::Object(object) => {
+            if heap.class_of(object) != INTERVAL {
+                return true;
+            }
+            has_few_elements(
+                integer_of_object(heap, object, 0),
+                integer_of_object(heap, object, 1),
+                integer_of_object(heap, object, 2),
+            )
+        }
+        _ => true,
     }
 }

@@ -22,4 +22,5 @@ mod writes;
 
 pub use answer::Built;
 pub use dispatch::collection_message;
+pub use elements::is_measured;
 pub use message::{CollectionMessage, OfCharacter, OfMaking, OfPair, OfSequence, OfString};

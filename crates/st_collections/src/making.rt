@@ -3,11 +3,11 @@ ghost use Rattle.std.specs.Prelude.{◌≡◌, ℕ, ℤ, ◌∷◌, [], pos, fal
 ghost use Rattle.object_heap.specs.Charges.{Memory};
 ghost use Rattle.object_heap.specs.declared.value.Value.{Value};
 ghost use Rattle.st_code.specs.BuiltIns.{array_class, association_class, byte_array_class};
-ghost use Rattle.st_collections.specs.Actions.{makes_bytes, makes_slots};
+ghost use Rattle.st_collections.specs.Actions.{first, makes_bytes, makes_slots};
 ghost use Rattle.st_collections.specs.Answers.{program_of, answer_of, memory_of, is_out, unless_out};
 ghost use Rattle.st_collections.specs.AtOnce.{making_action, with_all};
 ghost use Rattle.st_collections.specs.IntervalRows.{interval, interval_by, to_action, to_by_action};
-ghost use Rattle.st_collections.specs.Items.{FewElements};
+ghost use Rattle.st_collections.specs.Items.{IsMeasured};
 ghost use Rattle.st_collections.specs.Kinds.{integer_of};
 ghost use Rattle.st_collections.specs.ObjectRows.{sized};
 ghost use Rattle.st_collections.specs.SequenceRows.{class_number};
@@ -76,7 +76,7 @@ fn zeros<H: Heap>(heap: &mut H, names: &Names, count: u128) -> Built
 
 // A new Array of the elements of a collection.
 fn array_of_all<H: Heap>(heap: &mut H, names: &Names, collection: Value) -> Built
-    requires { FewElements (H.meaning heap.old).store }
+    requires { IsMeasured (H.meaning heap.old).store collection }
     ensures memory { H.meaning heap.new ≡ unless_out result (H.meaning heap.old) (memory_of (with_all (program_of names.now) (H.meaning heap.old).store collection) (H.meaning heap.old)) }
     ensures answer { result ≡ unless_out result result (answer_of (with_all (program_of names.now) (H.meaning heap.old).store collection) (H.meaning heap.old)) }
     ensures reserved { IsTrue H.reserved → is_out result ≡ false }
@@ -189,7 +189,7 @@ pub fn making_message<H: Heap>(
     receiver: Value,
     arguments: &[Value],
 ) -> Built
-    requires { FewElements (H.meaning heap.old).store }
+    requires { IsMeasured (H.meaning heap.old).store (first arguments.now) }
     ensures memory { H.meaning heap.new ≡ unless_out result (H.meaning heap.old) (memory_of (making_action (program_of names.now) (H.meaning heap.old).store message receiver arguments.now) (H.meaning heap.old)) }
     ensures answer { result ≡ unless_out result result (answer_of (making_action (program_of names.now) (H.meaning heap.old).store message receiver arguments.now) (H.meaning heap.old)) }
     ensures reserved { IsTrue H.reserved → is_out result ≡ false }

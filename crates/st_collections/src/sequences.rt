@@ -2,10 +2,10 @@
 ghost use Rattle.std.specs.Prelude.{◌≡◌, ℕ, ℤ, ◌+◌, pos, false, not, nat_eq, reverse, IsTrue};
 ghost use Rattle.object_heap.specs.Charges.{Memory};
 ghost use Rattle.st_code.specs.BuiltIns.{array_class, ordered_collection_class};
-ghost use Rattle.st_collections.specs.Actions.{Gives, boolean, makes_slots};
+ghost use Rattle.st_collections.specs.Actions.{Gives, boolean, first, makes_slots};
 ghost use Rattle.st_collections.specs.Answers.{program_of, answer_of, memory_of, is_out, unless_out};
 ghost use Rattle.st_collections.specs.AtOnce.{sequence_row};
-ghost use Rattle.st_collections.specs.Items.{FewElements};
+ghost use Rattle.st_collections.specs.Items.{IsMeasured};
 ghost use Rattle.st_collections.specs.Kinds.{element, elements, size_of, species};
 ghost use Rattle.st_collections.specs.ObjectRows.{indexed};
 ghost use Rattle.st_collections.specs.SequenceRows.{at_put, copy_between, copy_from_to, join, makes_sequence, sequence_action, unless_empty};
@@ -24,7 +24,7 @@ use st_names::Names;
 
 // The element at an index.
 fn at<H: Heap>(heap: &H, names: &Names, receiver: Value, index: Value) -> Built
-    requires { FewElements (H.meaning heap.now).store }
+    requires { IsMeasured (H.meaning heap.now).store receiver }
     ensures answer { (m : Memory) → result ≡ answer_of (indexed index (size_of (program_of names.now) (H.meaning heap.now).store receiver) (λ i. Gives (element (program_of names.now) (H.meaning heap.now).store receiver (i + 1)))) m }
     ensures settled { is_out result ≡ false }
 {
@@ -36,7 +36,7 @@ fn at<H: Heap>(heap: &H, names: &Names, receiver: Value, index: Value) -> Built
 
 // The first element.
 fn first_element<H: Heap>(heap: &H, names: &Names, receiver: Value) -> Built
-    requires { FewElements (H.meaning heap.now).store }
+    requires { IsMeasured (H.meaning heap.now).store receiver }
     ensures answer { (m : Memory) → result ≡ answer_of (unless_empty (program_of names.now) (H.meaning heap.now).store receiver (Gives (element (program_of names.now) (H.meaning heap.now).store receiver 1))) m }
     ensures settled { is_out result ≡ false }
 {
@@ -48,7 +48,7 @@ fn first_element<H: Heap>(heap: &H, names: &Names, receiver: Value) -> Built
 
 // The last element.
 fn last_element<H: Heap>(heap: &H, names: &Names, receiver: Value) -> Built
-    requires { FewElements (H.meaning heap.now).store }
+    requires { IsMeasured (H.meaning heap.now).store receiver }
     ensures answer { (m : Memory) → result ≡ answer_of (unless_empty (program_of names.now) (H.meaning heap.now).store receiver (Gives (element (program_of names.now) (H.meaning heap.now).store receiver (size_of (program_of names.now) (H.meaning heap.now).store receiver)))) m }
     ensures settled { is_out result ≡ false }
 {
@@ -67,7 +67,7 @@ fn put_at_index<H: Heap>(
     index: Value,
     value: Value,
 ) -> Built
-    requires { FewElements (H.meaning heap.old).store }
+    requires { IsMeasured (H.meaning heap.old).store receiver }
     ensures memory { H.meaning heap.new ≡ unless_out result (H.meaning heap.old) (memory_of (at_put (program_of names.now) (H.meaning heap.old).store receiver index value) (H.meaning heap.old)) }
     ensures answer { result ≡ unless_out result result (answer_of (at_put (program_of names.now) (H.meaning heap.old).store receiver index value) (H.meaning heap.old)) }
     ensures reserved { IsTrue H.reserved → is_out result ≡ false }
@@ -87,7 +87,8 @@ fn put_at_index<H: Heap>(
 
 // The elements of the receiver, then those of the argument.
 fn joined<H: Heap>(heap: &mut H, names: &Names, receiver: Value, argument: Value) -> Built
-    requires { FewElements (H.meaning heap.old).store }
+    requires receiver { IsMeasured (H.meaning heap.old).store receiver }
+    requires argument { IsMeasured (H.meaning heap.old).store argument }
     ensures memory { H.meaning heap.new ≡ unless_out result (H.meaning heap.old) (memory_of (join (program_of names.now) (H.meaning heap.old).store receiver argument) (H.meaning heap.old)) }
     ensures answer { result ≡ unless_out result result (answer_of (join (program_of names.now) (H.meaning heap.old).store receiver argument) (H.meaning heap.old)) }
     ensures reserved { IsTrue H.reserved → is_out result ≡ false }
@@ -110,7 +111,7 @@ fn joined<H: Heap>(heap: &mut H, names: &Names, receiver: Value, argument: Value
 
 // The elements from one index to another.
 fn part<H: Heap>(heap: &mut H, names: &Names, receiver: Value, from: i128, to: i128) -> Built
-    requires { FewElements (H.meaning heap.old).store }
+    requires { IsMeasured (H.meaning heap.old).store receiver }
     ensures memory { H.meaning heap.new ≡ unless_out result (H.meaning heap.old) (memory_of (copy_between (program_of names.now) (H.meaning heap.old).store receiver from to) (H.meaning heap.old)) }
     ensures answer { result ≡ unless_out result result (answer_of (copy_between (program_of names.now) (H.meaning heap.old).store receiver from to) (H.meaning heap.old)) }
     ensures reserved { IsTrue H.reserved → is_out result ≡ false }
@@ -141,7 +142,7 @@ fn part_between<H: Heap>(
     from: Value,
     to: Value,
 ) -> Built
-    requires { FewElements (H.meaning heap.old).store }
+    requires { IsMeasured (H.meaning heap.old).store receiver }
     ensures memory { H.meaning heap.new ≡ unless_out result (H.meaning heap.old) (memory_of (copy_from_to (program_of names.now) (H.meaning heap.old).store receiver from to) (H.meaning heap.old)) }
     ensures answer { result ≡ unless_out result result (answer_of (copy_from_to (program_of names.now) (H.meaning heap.old).store receiver from to) (H.meaning heap.old)) }
     ensures reserved { IsTrue H.reserved → is_out result ≡ false }
@@ -155,7 +156,7 @@ fn part_between<H: Heap>(
 
 // The elements, the last one first.
 fn backwards<H: Heap>(heap: &mut H, names: &Names, receiver: Value) -> Built
-    requires { FewElements (H.meaning heap.old).store }
+    requires { IsMeasured (H.meaning heap.old).store receiver }
     ensures memory { H.meaning heap.new ≡ unless_out result (H.meaning heap.old) (memory_of (makes_sequence (species (H.meaning heap.old).store receiver) (reverse (elements (program_of names.now) (H.meaning heap.old).store receiver)) (H.meaning heap.old).store) (H.meaning heap.old)) }
     ensures answer { result ≡ unless_out result result (answer_of (makes_sequence (species (H.meaning heap.old).store receiver) (reverse (elements (program_of names.now) (H.meaning heap.old).store receiver)) (H.meaning heap.old).store) (H.meaning heap.old)) }
     ensures reserved { IsTrue H.reserved → is_out result ≡ false }
@@ -168,7 +169,7 @@ fn backwards<H: Heap>(heap: &mut H, names: &Names, receiver: Value) -> Built
 
 // The elements in an Array.
 fn as_array<H: Heap>(heap: &mut H, names: &Names, receiver: Value) -> Built
-    requires { FewElements (H.meaning heap.old).store }
+    requires { IsMeasured (H.meaning heap.old).store receiver }
     ensures memory { H.meaning heap.new ≡ unless_out result (H.meaning heap.old) (memory_of (makes_slots array_class (elements (program_of names.now) (H.meaning heap.old).store receiver) (H.meaning heap.old).store) (H.meaning heap.old)) }
     ensures answer { result ≡ unless_out result result (answer_of (makes_slots array_class (elements (program_of names.now) (H.meaning heap.old).store receiver) (H.meaning heap.old).store) (H.meaning heap.old)) }
     ensures reserved { IsTrue H.reserved → is_out result ≡ false }
@@ -180,7 +181,7 @@ fn as_array<H: Heap>(heap: &mut H, names: &Names, receiver: Value) -> Built
 
 // The elements in an OrderedCollection.
 fn as_ordered<H: Heap>(heap: &mut H, names: &Names, receiver: Value) -> Built
-    requires { FewElements (H.meaning heap.old).store }
+    requires { IsMeasured (H.meaning heap.old).store receiver }
     ensures memory { H.meaning heap.new ≡ unless_out result (H.meaning heap.old) (memory_of (makes_slots ordered_collection_class (elements (program_of names.now) (H.meaning heap.old).store receiver) (H.meaning heap.old).store) (H.meaning heap.old)) }
     ensures answer { result ≡ unless_out result result (answer_of (makes_slots ordered_collection_class (elements (program_of names.now) (H.meaning heap.old).store receiver) (H.meaning heap.old).store) (H.meaning heap.old)) }
     ensures reserved { IsTrue H.reserved → is_out result ≡ false }
@@ -205,7 +206,8 @@ pub fn sequence_message<H: Heap>(
     receiver: Value,
     arguments: &[Value],
 ) -> Built
-    requires { FewElements (H.meaning heap.old).store }
+    requires receiver { IsMeasured (H.meaning heap.old).store receiver }
+    requires argument { IsMeasured (H.meaning heap.old).store (first arguments.now) }
     ensures memory { H.meaning heap.new ≡ unless_out result (H.meaning heap.old) (memory_of (sequence_action (program_of names.now) (H.meaning heap.old).store (sequence_row message) receiver arguments.now) (H.meaning heap.old)) }
     ensures answer { result ≡ unless_out result result (answer_of (sequence_action (program_of names.now) (H.meaning heap.old).store (sequence_row message) receiver arguments.now) (H.meaning heap.old)) }
     ensures reserved { IsTrue H.reserved → is_out result ≡ false }
