@@ -24,3 +24,6 @@ pub use answer::Built;
 pub use dispatch::collection_message;
 pub use elements::is_measured;
 pub use message::{CollectionMessage, OfCharacter, OfMaking, OfPair, OfSequence, OfString};
+
+#[cfg(test)]
+mod tests;
