@@ -1,5 +1,6 @@
 pub mod Bytes
 pub mod ElementLists
+pub mod Gaps
 pub mod Makings
 pub mod Objects
 pub mod Reaches

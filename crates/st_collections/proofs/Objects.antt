@@ -138,11 +138,11 @@ filled_answer p m class items count n e h = rw (e, makes_items-is p class items 
 
 -- ---- a heap that made nothing
 
-stop_limit : (b : Bool) (u c n : ℕ) (charge : ℕ) (m m' : Memory) → Err (Limit u c) ≡ (if b then Ok n else Err (Limit m.used (told charge))) → (if b then m' else m) ≡ m
+pub stop_limit : {A : Type 0} → (b : Bool) (u c : ℕ) (n : A) (charge : ℕ) (m m' : Memory) → Err (Limit u c) ≡ (if b then Ok n else Err (Limit m.used (told charge))) → (if b then m' else m) ≡ m
 stop_limit true u c n charge m m' e = cc
 stop_limit false u c n charge m m' e = refl
 
-stop_told : (b : Bool) (u c n : ℕ) (charge : ℕ) (m : Memory) (v : Value) → Err (Limit u c) ≡ (if b then Ok n else Err (Limit m.used (told charge))) → Built.Cells u c ≡ (if b then Built.Value v else Built.Cells m.used (told charge))
+pub stop_told : {A : Type 0} → (b : Bool) (u c : ℕ) (n : A) (charge : ℕ) (m : Memory) (v : Value) → Err (Limit u c) ≡ (if b then Ok n else Err (Limit m.used (told charge))) → Built.Cells u c ≡ (if b then Built.Value v else Built.Cells m.used (told charge))
 stop_told true u c n charge m v e = cc
 stop_told false u c n charge m v e = cc
 

@@ -9,12 +9,14 @@ use Rattle.st_code.specs.Messages.{CharacterMessage, StringMessage, SequenceMess
 use Rattle.st_collections.specs.declared.message.CollectionMessage.{CollectionMessage}
 use Rattle.st_collections.specs.declared.message.OfCharacter.{OfCharacter}
 use Rattle.st_collections.specs.declared.message.OfMaking.{OfMaking}
+use Rattle.st_collections.specs.declared.message.OfOrdered.{OfOrdered}
 use Rattle.st_collections.specs.declared.message.OfPair.{OfPair}
 use Rattle.st_collections.specs.declared.message.OfSequence.{OfSequence}
 use Rattle.st_collections.specs.declared.message.OfString.{OfString}
 use Rattle.st_collections.specs.Actions.{Action, Gives, Fails, first, second, makes_slots}
 use Rattle.st_collections.specs.TextRows.{character_action, string_action}
 use Rattle.st_collections.specs.SequenceRows.{sequence_action, collection_action}
+use Rattle.st_collections.specs.Ordered.{IsOrdered}
 use Rattle.st_collections.specs.ObjectRows.{object_action}
 use Rattle.st_collections.specs.IntervalRows.{to_action, to_by_action}
 use Rattle.st_collections.specs.Kinds.{elements, is_collection, slot_of}
@@ -91,6 +93,15 @@ pair_action p s OfPair.Values r = collection_action p s CollectionRow.Values r [
 pair_action p s OfPair.Key r = Gives (slot_of s r 0)
 pair_action p s OfPair.Value r = Gives (slot_of s r 1)
 
+-- messages of OrderedCollections that add and remove
+abbrev pub ordered_action : Program → Store → OfOrdered → Value → List Value → Action
+ordered_action p s OfOrdered.Add r args = collection_action p s CollectionRow.Add r args
+ordered_action p s OfOrdered.AddFirst r args = collection_action p s CollectionRow.AddFirst r args
+ordered_action p s OfOrdered.RemoveFirst r args = collection_action p s CollectionRow.RemoveFirst r args
+ordered_action p s OfOrdered.RemoveLast r args = collection_action p s CollectionRow.RemoveLast r args
+ordered_action p s OfOrdered.AddBeforeIndex r args = collection_action p s CollectionRow.AddBeforeIndex r args
+ordered_action p s OfOrdered.RemoveAtIndex r args = collection_action p s CollectionRow.RemoveAtIndex r args
+
 -- what a message does
 abbrev pub action_of : Program → Store → CollectionMessage → Value → List Value → Action
 action_of p s (CollectionMessage.Character m) r args = character_action s (character_row m) r args
@@ -98,3 +109,9 @@ action_of p s (CollectionMessage.String m) r args = string_action p s (string_ro
 action_of p s (CollectionMessage.Sequence m) r args = sequence_action p s (sequence_row m) r args
 action_of p s (CollectionMessage.Making m) r args = making_action p s m r args
 action_of p s (CollectionMessage.Pair m) r args = pair_action p s m r
+action_of p s (CollectionMessage.Ordered m) r args = ordered_action p s m r args
+
+-- an OrderedCollection that a message changes is one as it stands
+abbrev pub IsReceiver : Store → CollectionMessage → Value → Type 0
+IsReceiver s (CollectionMessage.Ordered m) r = IsOrdered s r
+IsReceiver s _ r = Unit {0}

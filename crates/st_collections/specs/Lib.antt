@@ -7,5 +7,6 @@ pub mod Kinds
 pub mod ObjectRows
 pub mod TextRows
 pub mod SequenceRows
+pub mod Ordered
 pub mod Orders
 pub mod Loops

@@ -2,13 +2,14 @@
 ghost use Rattle.std.specs.Prelude.{◌≡◌, false, IsTrue};
 ghost use Rattle.st_collections.specs.Actions.{first};
 ghost use Rattle.st_collections.specs.Answers.{program_of, answer_of, memory_of, is_out, unless_out};
-ghost use Rattle.st_collections.specs.AtOnce.{action_of};
+ghost use Rattle.st_collections.specs.AtOnce.{action_of, IsReceiver};
 ghost use Rattle.st_collections.specs.Items.{IsMeasured};
 
 use crate::answer::Built;
 use crate::characters::character_message;
 use crate::making::making_message;
 use crate::message::CollectionMessage;
+use crate::ordered::ordered_message;
 use crate::pairs::pair_message;
 use crate::sequences::sequence_message;
 use crate::strings::string_message;
@@ -26,6 +27,7 @@ pub fn collection_message<H: Heap>(
     arguments: &[Value],
 ) -> Built
     requires receiver { IsMeasured (H.meaning heap.old).store receiver }
+    requires ordered { IsReceiver (H.meaning heap.old).store message receiver }
     requires argument { IsMeasured (H.meaning heap.old).store (first arguments.now) }
     ensures memory { H.meaning heap.new ≡ unless_out result (H.meaning heap.old) (memory_of (action_of (program_of names.now) (H.meaning heap.old).store message receiver arguments.now) (H.meaning heap.old)) }
     ensures answer { result ≡ unless_out result result (answer_of (action_of (program_of names.now) (H.meaning heap.old).store message receiver arguments.now) (H.meaning heap.old)) }
@@ -36,6 +38,7 @@ pub fn collection_message<H: Heap>(
         CollectionMessage::Character(m) => character_message(heap, names, m, receiver, arguments),
         CollectionMessage::Sequence(m) => sequence_message(heap, names, m, receiver, arguments),
         CollectionMessage::Making(m) => making_message(heap, names, m, receiver, arguments),
+        CollectionMessage::Ordered(m) => ordered_message(heap, names, m, receiver, arguments),
         CollectionMessage::Pair(m) => pair_message(heap, names, m, receiver),
         CollectionMessage::String(m) => string_message(heap, names, m, receiver, arguments),
     }

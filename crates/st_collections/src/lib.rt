@@ -7,6 +7,7 @@ mod characters;
 mod classes;
 mod dispatch;
 mod elements;
+mod growth;
 mod intervals;
 mod items;
 mod kinds;
@@ -14,6 +15,7 @@ mod letters;
 mod makers;
 mod making;
 mod message;
+mod ordered;
 mod pairs;
 mod sequences;
 mod strings;
@@ -23,7 +25,7 @@ mod writes;
 pub use answer::Built;
 pub use dispatch::collection_message;
 pub use elements::is_measured;
-pub use message::{CollectionMessage, OfCharacter, OfMaking, OfPair, OfSequence, OfString};
-
-#[cfg(test)]
-mod tests;
+pub use message::{
+    CollectionMessage, OfCharacter, OfMaking, OfOrdered, OfPair, OfSequence, OfString,
+};
+pub use ordered::is_ordered;

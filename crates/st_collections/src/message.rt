@@ -7,6 +7,7 @@ pub enum CollectionMessage {
     String(OfString),
     Sequence(OfSequence),
     Making(OfMaking),
+    Ordered(OfOrdered),
     Pair(OfPair),
 }
 
@@ -140,4 +141,21 @@ pub enum OfPair {
     Key,
     /// `value` of an Association
     Value,
+}
+
+/// The messages of OrderedCollection that add or remove an element by its place (section 5.7.14).
+#[derive(Clone, Copy, Debug, PartialEq, Eq)]
+pub enum OfOrdered {
+    /// `add:` and `addLast:`
+    Add,
+    /// `addFirst:`
+    AddFirst,
+    /// `removeFirst`
+    RemoveFirst,
+    /// `removeLast`
+    RemoveLast,
+    /// `add:beforeIndex:`
+    AddBeforeIndex,
+    /// `removeAtIndex:`
+    RemoveAtIndex,
 }
