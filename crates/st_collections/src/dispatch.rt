@@ -9,7 +9,7 @@ use crate::answer::Built;
 use crate::characters::character_message;
 use crate::making::making_message;
 use crate::message::CollectionMessage;
-use crate::ordered::ordered_message;
+use crate::ordered::{is_ordered, ordered_message};
 use crate::pairs::pair_message;
 use crate::sequences::sequence_message;
 use crate::strings::string_message;
@@ -41,5 +41,16 @@ pub fn collection_message<H: Heap>(
         CollectionMessage::Ordered(m) => ordered_message(heap, names, m, receiver, arguments),
         CollectionMessage::Pair(m) => pair_message(heap, names, m, receiver),
         CollectionMessage::String(m) => string_message(heap, names, m, receiver, arguments),
+    }
+}
+
+/// Whether a value may be the receiver of a message: of those that change an OrderedCollection, no
+/// object or an OrderedCollection that is no literal and has no more elements than room.
+pub fn is_receiver<H: Heap>(heap: &H, message: CollectionMessage, value: Value) -> bool
+    ensures { IsTrue result → IsReceiver (H.meaning heap.now).store message value }
+{
+    match message {
+        CollectionMessage::Ordered(_) => is_ordered(heap, value),
+        _ => true,
     }
 }

@@ -23,12 +23,11 @@ mod texts;
 mod writes;
 
 pub use answer::Built;
-pub use dispatch::collection_message;
+pub use dispatch::{collection_message, is_receiver};
 pub use elements::is_measured;
 pub use message::{
     CollectionMessage, OfCharacter, OfMaking, OfOrdered, OfPair, OfSequence, OfString,
 };
-pub use ordered::is_ordered;
 
 #[cfg(test)]
 mod tests;
