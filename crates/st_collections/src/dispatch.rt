@@ -1,5 +1,6 @@
 // What a message does at once.
 ghost use Rattle.std.specs.Prelude.{◌≡◌, false, IsTrue};
+ghost use Rattle.st_code.specs.Program.{Program};
 ghost use Rattle.st_collections.specs.Actions.{first};
 ghost use Rattle.st_collections.specs.Answers.{program_of, answer_of, memory_of, is_out, unless_out};
 ghost use Rattle.st_collections.specs.AtOnce.{action_of, IsReceiver};
@@ -20,6 +21,25 @@ use st_names::Names;
 /// cells that the message takes are one charge, which is tested before anything is written. An
 /// argument that isn't there is nil.
 pub fn collection_message<H: Heap>(
+    heap: &mut H,
+    names: &Names,
+    message: CollectionMessage,
+    receiver: Value,
+    arguments: &[Value],
+) -> Built
+    requires receiver { IsMeasured (H.meaning heap.old).store receiver }
+    requires ordered { IsReceiver (H.meaning heap.old).store message receiver }
+    requires argument { IsMeasured (H.meaning heap.old).store (first arguments.now) }
+    ensures memory { (p : Program) → p.names ≡ names.now → H.meaning heap.new ≡ unless_out result (H.meaning heap.old) (memory_of (action_of p (H.meaning heap.old).store message receiver arguments.now) (H.meaning heap.old)) }
+    ensures answer { (p : Program) → p.names ≡ names.now → result ≡ unless_out result result (answer_of (action_of p (H.meaning heap.old).store message receiver arguments.now) (H.meaning heap.old)) }
+    ensures reserved { IsTrue H.reserved → is_out result ≡ false }
+    ensures literals { H.literal_room heap.new ≡ H.literal_room heap.old }
+{
+    at_once(heap, names, message, receiver, arguments)
+}
+
+// The same, for a program that has names alone.
+fn at_once<H: Heap>(
     heap: &mut H,
     names: &Names,
     message: CollectionMessage,

@@ -6,7 +6,7 @@ ghost use Rattle.st_collections.specs.Actions.{Changes, first, second};
 ghost use Rattle.st_collections.specs.Answers.{program_of, answer_of, memory_of, is_out, unless_out};
 ghost use Rattle.st_collections.specs.AtOnce.{ordered_action};
 ghost use Rattle.st_collections.specs.ObjectRows.{indexed};
-ghost use Rattle.st_collections.specs.Ordered.{IsOpen, IsOrdered};
+ghost use Rattle.st_collections.specs.Ordered.{IsOpen, IsOrdered, removal};
 ghost use Rattle.st_collections.specs.SequenceRows.{adds, unless_empty, without_element};
 
 use crate::answer::{Built, answer_stop};
@@ -99,10 +99,11 @@ fn remove_index<H: Heap>(heap: &mut H, object: u32, index: Value) -> Built
     }
 }
 
-fn remove_first<H: Heap>(heap: &mut H, object: u32, names: &Names) -> Built
+// Takes out the first element.
+fn remove_first<H: Heap>(heap: &mut H, object: u32) -> Built
     requires { IsOpen (H.meaning heap.old).store object }
-    ensures memory { H.meaning heap.new ≡ unless_out result (H.meaning heap.old) (memory_of (unless_empty (program_of names.now) (H.meaning heap.old).store (Value.Object object) (Changes (without_element (H.meaning heap.old).store object 0) (get_or (object_at object (H.meaning heap.old).store).slots 0 Value.Nil))) (H.meaning heap.old)) }
-    ensures answer { result ≡ unless_out result result (answer_of (unless_empty (program_of names.now) (H.meaning heap.old).store (Value.Object object) (Changes (without_element (H.meaning heap.old).store object 0) (get_or (object_at object (H.meaning heap.old).store).slots 0 Value.Nil))) (H.meaning heap.old)) }
+    ensures memory { H.meaning heap.new ≡ unless_out result (H.meaning heap.old) (memory_of (removal (H.meaning heap.old).store object 0) (H.meaning heap.old)) }
+    ensures answer { result ≡ unless_out result result (answer_of (removal (H.meaning heap.old).store object 0) (H.meaning heap.old)) }
     ensures reserved { IsTrue H.reserved → is_out result ≡ false }
     ensures literals { H.literal_room heap.new ≡ H.literal_room heap.old }
 {
@@ -112,10 +113,11 @@ fn remove_first<H: Heap>(heap: &mut H, object: u32, names: &Names) -> Built
     remove_at(heap, object, 0)
 }
 
-fn remove_last<H: Heap>(heap: &mut H, object: u32, names: &Names) -> Built
+// Takes out the last element.
+fn remove_last<H: Heap>(heap: &mut H, object: u32) -> Built
     requires { IsOpen (H.meaning heap.old).store object }
-    ensures memory { H.meaning heap.new ≡ unless_out result (H.meaning heap.old) (memory_of (unless_empty (program_of names.now) (H.meaning heap.old).store (Value.Object object) (Changes (without_element (H.meaning heap.old).store object (length (object_at object (H.meaning heap.old).store).slots - 1)) (get_or (object_at object (H.meaning heap.old).store).slots (length (object_at object (H.meaning heap.old).store).slots - 1) Value.Nil))) (H.meaning heap.old)) }
-    ensures answer { result ≡ unless_out result result (answer_of (unless_empty (program_of names.now) (H.meaning heap.old).store (Value.Object object) (Changes (without_element (H.meaning heap.old).store object (length (object_at object (H.meaning heap.old).store).slots - 1)) (get_or (object_at object (H.meaning heap.old).store).slots (length (object_at object (H.meaning heap.old).store).slots - 1) Value.Nil))) (H.meaning heap.old)) }
+    ensures memory { H.meaning heap.new ≡ unless_out result (H.meaning heap.old) (memory_of (removal (H.meaning heap.old).store object (length (object_at object (H.meaning heap.old).store).slots - 1)) (H.meaning heap.old)) }
+    ensures answer { result ≡ unless_out result result (answer_of (removal (H.meaning heap.old).store object (length (object_at object (H.meaning heap.old).store).slots - 1)) (H.meaning heap.old)) }
     ensures reserved { IsTrue H.reserved → is_out result ≡ false }
     ensures literals { H.literal_room heap.new ≡ H.literal_room heap.old }
 {
@@ -148,8 +150,8 @@ pub fn ordered_message<H: Heap>(
     match message {
         OfOrdered::Add => add_last(heap, object, argument),
         OfOrdered::AddFirst => add_first(heap, object, argument),
-        OfOrdered::RemoveFirst => remove_first(heap, object, names),
-        OfOrdered::RemoveLast => remove_last(heap, object, names),
+        OfOrdered::RemoveFirst => remove_first(heap, object),
+        OfOrdered::RemoveLast => remove_last(heap, object),
         OfOrdered::AddBeforeIndex => add_before(heap, object, argument, second_of(arguments)),
         OfOrdered::RemoveAtIndex => remove_index(heap, object, argument),
     }
