@@ -9,7 +9,7 @@ use Rattle.st_code.specs.Program.{Program, class_at, name_at}
 use Rattle.st_code.specs.BuiltIns.{string_class, symbol_class, fraction_class, array_class, byte_array_class, ordered_collection_class, set_class, dictionary_class, interval_class, message_not_understood_class, message_class}
 use Rattle.st_code.specs.Lookup.{class_of, class_text, inherits}
 
-abbrev same_integer : ℤ → ℤ → Bool
+abbrev pub same_integer : ℤ → ℤ → Bool
 same_integer (pos a) (pos b) = nat_eq a b
 same_integer (negsuc a) (negsuc b) = nat_eq a b
 same_integer _ _ = false
@@ -66,7 +66,7 @@ unfoldable pub interval_size : ℤ → ℤ → ℤ → ℕ
 interval_size start stop (pos by) = if int_lt stop start then 0 else natural_of (stop -ℤ start) / by + 1
 interval_size start stop (negsuc by) = if int_lt start stop then 0 else natural_of (start -ℤ stop) / suc by + 1
 
-abbrev size_at : ℕ → List Value → List ℕ → ℕ
+abbrev pub size_at : ℕ → List Value → List ℕ → ℕ
 size_at class slots bytes =
     if nat_eq class string_class || nat_eq class byte_array_class then length bytes else
     (if nat_eq class dictionary_class then length slots / 2 else
@@ -79,7 +79,7 @@ size_of p s (Object number) = let o = object_at number s in size_at o.class o.sl
 size_of p s v = 0
 
 -- an element by its index from 0; a Dictionary's are its values
-abbrev element_at : ℕ → List Value → List ℕ → ℕ → Value
+abbrev pub element_at : ℕ → List Value → List ℕ → ℕ → Value
 element_at class slots bytes i =
     if nat_eq class string_class then Character (get_or bytes i 0) else
     (if nat_eq class byte_array_class then Integer (pos (get_or bytes i 0)) else
@@ -91,7 +91,7 @@ element p s (Symbol name) i = Character (get_or (name_at p name) (i - 1) 0)
 element p s (Object number) i = let o = object_at number s in element_at o.class o.slots o.bytes (i - 1)
 element p s v i = Nil
 
-abbrev elements_from : Program → Store → Value → ℕ → ℕ → List Value
+abbrev pub elements_from : Program → Store → Value → ℕ → ℕ → List Value
 elements_from p s v i zero = []
 elements_from p s v i (suc n) = let rest = elements_from p s v (i + 1) n in element p s v i ∷ rest
 
@@ -106,7 +106,7 @@ elements p s v = some_elements p s v 1 (size_of p s v)
 unfoldable pub key : Store → Value → (index : ℕ) → Value
 key s v i = slot_of s v (2 * i - 2)
 
-abbrev is_sequence_class : ℕ → Bool
+abbrev pub is_sequence_class : ℕ → Bool
 is_sequence_class c = nat_eq c string_class || nat_eq c symbol_class || nat_eq c array_class || nat_eq c byte_array_class || nat_eq c ordered_collection_class || nat_eq c interval_class
 
 -- a String, Symbol, Array, ByteArray, OrderedCollection or Interval
@@ -127,7 +127,7 @@ species s v = string_class
 
 -- ---- printed forms
 
-abbrev print_object : Program → Store → ℕ → ℕ → Text
+abbrev pub print_object : Program → Store → ℕ → ℕ → Text
 print_object p s number class =
     if nat_eq class string_class then quoted (object_at number s).bytes else
     (if nat_eq class fraction_class then signed_decimal (integer_of (slot_of s (Object number) 0)) ++ 47 ∷ signed_decimal (integer_of (slot_of s (Object number) 1)) else
@@ -147,16 +147,16 @@ print_text p s (Meta class) = (class_at p class).name ++ codes " class"
 print_text p s Transcript = codes "a TranscriptWriter"
 print_text p s (Object number) = print_object p s number (object_at number s).class
 
-abbrev or_text : Option Text → Text → Text
+abbrev pub or_text : Option Text → Text → Text
 or_text (Some t) u = t
 or_text None u = u
 
-abbrev kept_message : Program → Store → Value → Text → Text
+abbrev pub kept_message : Program → Store → Value → Text → Text
 kept_message p s (Symbol name) text = symbol_text (name_at p name)
 kept_message p s v text = text
 
 -- `C does not understand #sel` for a MessageNotUnderstood that keeps a Message, else the class's name
-abbrev unkept_text : Program → Store → ℕ → ℕ → Text
+abbrev pub unkept_text : Program → Store → ℕ → ℕ → Text
 unkept_text p s number class =
     if inherits p class message_not_understood_class && is_a s message_class (slot_of s (Object number) 1)
     then class_text p (class_of s (slot_of s (Object number) 2)) ++ codes " does not understand " ++ kept_message p s (slot_of s (slot_of s (Object number) 1) 0) []

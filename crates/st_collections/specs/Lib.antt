@@ -1,6 +1,12 @@
 pub mod Actions
+pub mod Answers
+pub mod AtOnce
+pub mod IntervalRows
+pub mod Items
 pub mod Kinds
 pub mod ObjectRows
 pub mod TextRows
 pub mod SequenceRows
+pub mod Ordered
+pub mod Orders
 pub mod Loops

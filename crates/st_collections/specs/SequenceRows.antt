@@ -13,7 +13,7 @@ use Rattle.st_collections.specs.Kinds.{size_of, element, some_elements, elements
 use Rattle.st_collections.specs.ObjectRows.{indexed, index_in, byte_value, byte_put, sized}
 use Rattle.st_collections.specs.TextRows.{with_character, byte_of}
 
-abbrev byte_in : Value → ℕ
+abbrev pub byte_in : Value → ℕ
 byte_in v = natural_of (integer_of v)
 
 -- a new sequence of this class
@@ -24,57 +24,57 @@ makes_sequence class items s =
 
 -- ---- elements by index
 
-abbrev written : Store → ℕ → ℕ → ℕ → Value → Action
+abbrev pub written : Store → ℕ → ℕ → ℕ → Value → Action
 written s number class i v =
     if nat_eq class string_class then with_character v (λ b. Changes (with_byte number i b s) v) else
     (if nat_eq class byte_array_class then byte_put s number i v else Changes (with_slot number i v s) v)
 
 -- a literal and a Symbol are read-only
-abbrev at_put : Program → Store → Value → Value → Value → Action
+abbrev pub at_put : Program → Store → Value → Value → Value → Action
 at_put p s (Object number) at v =
     let o = object_at number s in
     if o.read_only then Fails LiteralIsReadOnly else indexed at (size_of p s (Object number)) (λ i. written s number o.class i v)
 at_put p s r at v = Fails LiteralIsReadOnly
 
-abbrev unless_empty : Program → Store → Value → Action → Action
+abbrev pub unless_empty : Program → Store → Value → Action → Action
 unless_empty p s r act = if nat_eq (size_of p s r) 0 then Fails CollectionIsEmpty else act
 
 -- ---- `,` and `copyFrom:to:`
 
-abbrev is_byte : Value → Bool
+abbrev pub is_byte : Value → Bool
 is_byte v = elim (byte_value v) [ Some n ↦ true | None ↦ false ]
 
-abbrev is_character : Value → Bool
+abbrev pub is_character : Value → Bool
 is_character (Character b) = true
 is_character v = false
 
-abbrev all_values : (Value → Bool) → List Value → Bool
+abbrev pub all_values : (Value → Bool) → List Value → Bool
 all_values test [] = true
 all_values test (v ∷ vs) = elim (test v) [ true ↦ all_values test vs | false ↦ false ]
 
 -- the trouble with these as elements of this class
-abbrev element_trouble : ℕ → List Value → Option Trouble
+abbrev pub element_trouble : ℕ → List Value → Option Trouble
 element_trouble class items =
     if nat_eq class string_class then (if all_values is_character items then None else Some CharacterExpected) else
     (if nat_eq class byte_array_class then (if all_values is_byte items then None else Some ByteExpected) else None)
 
-abbrev join : Program → Store → Value → Value → Action
+abbrev pub join : Program → Store → Value → Value → Action
 join p s r v = if is_sequence s v then elim (element_trouble (species s r) (elements p s v)) [
   | Some trouble ↦ Fails trouble
   | None ↦ makes_sequence (species s r) (elements p s r ++ elements p s v) s
 ] else Fails CollectionExpected
 
-abbrev is_index : ℕ → ℤ → Bool
+abbrev pub is_index : ℕ → ℤ → Bool
 is_index size i = elim (index_in size i) [ Some n ↦ true | None ↦ false ]
 
-abbrev copy_between : Program → Store → Value → ℤ → ℤ → Action
+abbrev pub copy_between : Program → Store → Value → ℤ → ℤ → Action
 copy_between p s r i j =
     if int_lt j i then makes_sequence (species s r) [] s else
     (if is_index (size_of p s r) i && is_index (size_of p s r) j
     then makes_sequence (species s r) (some_elements p s r (natural_of i) (natural_of j + 1 - natural_of i)) s
     else Fails IndexOutOfRange)
 
-abbrev copy_from_to : Program → Store → Value → Value → Value → Action
+abbrev pub copy_from_to : Program → Store → Value → Value → Value → Action
 copy_from_to p s r (Integer i) (Integer j) = copy_between p s r i j
 copy_from_to p s r v w = Fails NumberExpected
 
@@ -99,7 +99,7 @@ pub record Room : Type 0 where
   pub elements : ℕ
   pub cells : ℕ
 
-abbrev grown_in : ℕ → ℕ → ℕ → ℕ → Room
+abbrev pub grown_in : ℕ → ℕ → ℕ → ℕ → Room
 grown_in zero size room cells = record { elements = room; cells = cells }
 grown_in (suc n) size room cells = elim (nat_le size room) [
   | true ↦ record { elements = room; cells = cells }
@@ -110,10 +110,10 @@ grown_in (suc n) size room cells = elim (nat_le size room) [
 unfoldable pub grown_to : (size room : ℕ) → Room
 grown_to size room = grown_in size size room 0
 
-abbrev per_element : ℕ → ℕ
+abbrev pub per_element : ℕ → ℕ
 per_element class = if nat_eq class dictionary_class then 2 else 1
 
-abbrev with_room : HeapObject → List Value → ℕ → HeapObject
+abbrev pub with_room : HeapObject → List Value → ℕ → HeapObject
 with_room o slots capacity = record { class = o.class; slots = slots; bytes = o.bytes; capacity = capacity; read_only = o.read_only; closure = o.closure }
 
 -- a collection's slots after elements were added to it: the cells of its growth, and the store
@@ -128,10 +128,10 @@ with_elements s number slots =
     let room = grown_to (length slots / per) (o.capacity / per) in
     record { cells = per * room.cells; store = object_set number (with_room o slots (per * room.elements)) s }
 
-abbrev adds : Store → ℕ → List Value → Value → Action
+abbrev pub adds : Store → ℕ → List Value → Value → Action
 adds s number slots v = let g = with_elements s number slots in Makes g.cells g.store v
 
-abbrev with_slots_of : Store → ℕ → List Value → Store
+abbrev pub with_slots_of : Store → ℕ → List Value → Store
 with_slots_of s number slots = object_set number (with_room (object_at number s) slots (object_at number s).capacity) s
 
 -- the store with an element of a collection taken out, by its place from 0
@@ -148,11 +148,11 @@ abbrev mutual
   seconds [] = []
   seconds (v ∷ vs) = firsts vs
 
-abbrev class_number : Value → ℕ
+abbrev pub class_number : Value → ℕ
 class_number (Class class) = class
 class_number v = 0
 
-abbrev ordered_at : Program → Store → CollectionMessage → ℕ → List Value → Action
+abbrev pub ordered_at : Program → Store → CollectionMessage → ℕ → List Value → Action
 ordered_at p s CollectionMessage.Add n args = adds s n ((object_at n s).slots ++ first args ∷ []) (first args)
 ordered_at p s CollectionMessage.AddFirst n args = adds s n (first args ∷ (object_at n s).slots) (first args)
 ordered_at p s CollectionMessage.AddAll n args = if is_collection s (first args) then adds s n ((object_at n s).slots ++ elements p s (first args)) (first args) else Fails CollectionExpected
@@ -166,7 +166,7 @@ ordered_at p s CollectionMessage.Keys n args = makes_slots array_class (firsts (
 ordered_at p s CollectionMessage.Values n args = makes_slots array_class (seconds (object_at n s).slots) s
 ordered_at p s m n args = Gives Nil
 
-abbrev changed : Program → Store → CollectionMessage → Value → List Value → Action
+abbrev pub changed : Program → Store → CollectionMessage → Value → List Value → Action
 changed p s m (Object n) args = ordered_at p s m n args
 changed p s m r args = Gives Nil
 

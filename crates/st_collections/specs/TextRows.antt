@@ -17,7 +17,7 @@ abbrev pub with_character : Value → (ℕ → Action) → Action
 with_character (Character byte) act = act byte
 with_character v act = Fails CharacterExpected
 
-abbrev from_code_point : Value → Action
+abbrev pub from_code_point : Value → Action
 from_code_point (Integer (pos n)) = if nat_le n 255 then Gives (Character n) else Fails IndexOutOfRange
 from_code_point (Integer (negsuc n)) = Fails IndexOutOfRange
 from_code_point v = Fails NumberExpected
@@ -45,25 +45,25 @@ character_action s CharacterMessage.GreaterOrEqual r args = with_character (firs
 
 -- ---- Strings and Symbols
 
-abbrev with_text : Program → Store → Value → (Text → Action) → Action
+abbrev pub with_text : Program → Store → Value → (Text → Action) → Action
 with_text p s v act = elim (bytes_of p s v) [ Some t ↦ act t | None ↦ Fails StringExpected ]
 
-abbrev or_empty : Option Text → Text
+abbrev pub or_empty : Option Text → Text
 or_empty (Some t) = t
 or_empty None = []
 
-abbrev equal_text : Text → Option Text → Bool
+abbrev pub equal_text : Text → Option Text → Bool
 equal_text t (Some u) = same_text t u
 equal_text t None = false
 
 -- `new:` of String: spaces
-abbrev new_string : Store → Value → Value → Action
+abbrev pub new_string : Store → Value → Value → Action
 new_string s (Class class) (Integer (pos n)) = if nat_eq class symbol_class then Fails CannotBeInstantiated else makes_string (replicate n 32) s
 new_string s (Class class) (Integer (negsuc n)) = if nat_eq class symbol_class then Fails CannotBeInstantiated else Fails IndexOutOfRange
 new_string s (Class class) v = if nat_eq class symbol_class then Fails CannotBeInstantiated else Fails NumberExpected
 new_string s r v = Fails NumberExpected
 
-abbrev string_at : Program → Store → StringMessage → Value → Text → List Value → Action
+abbrev pub string_at : Program → Store → StringMessage → Value → Text → List Value → Action
 string_at p s StringMessage.Equal r t args = Gives (boolean (equal_text t (bytes_of p s (first args))))
 string_at p s StringMessage.Less r t args = with_text p s (first args) (λ u. Gives (boolean (text_less t u)))
 string_at p s StringMessage.Greater r t args = with_text p s (first args) (λ u. Gives (boolean (text_less u t)))

@@ -1,0 +1,10 @@
+pub mod ByNames
+pub mod Bytes
+pub mod ElementLists
+pub mod Gaps
+pub mod Makings
+pub mod Objects
+pub mod Reaches
+pub mod Steady
+pub mod TextItems
+pub mod TextOrders

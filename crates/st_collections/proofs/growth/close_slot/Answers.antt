@@ -1,0 +1,34 @@
+use Rattle.std.proofs.Common.{ℕ, ◌≡◌, ◌∙◌, sym, refl, arith, ◌+◌, ◌-◌, ◌*◌, ◌≤◌, ◌<◌, ap, get_or, length}
+use Rattle.std.specs.List.{insert, remove}
+use Rattle.object_heap.specs.declared.value.Value.TheVariants.{Nil}
+use Rattle.object_heap.specs.Store.{Store, object_at, object_set}
+use Rattle.object_heap.specs.Charges.{with_store}
+use Rattle.st_collections.proofs.Gaps.{closed_first, closed_more, closed_all, stands_of_room}
+use Rattle.st_collections.proofs.growth.close_slot.Goals as goal
+
+pub loop-gap-init : goal.loop-gap-init
+loop-gap-init g c =
+    let m = g.H.Heap.meaning c.args.heap.now in
+    let o = object_at c.args.object m.store in
+    record { low = omega arith; high = omega arith; memory = ap (λ (s : Store). with_store s m) (closed_first c.args.object c.args.place m.store c.requires.within); literals = refl }
+
+pub loop-gap-preserved : goal.loop-gap-preserved
+loop-gap-preserved g c =
+    let m = g.H.Heap.meaning c.args.heap.now in
+    let o = object_at c.args.object m.store in
+    let stands : c.args.object < length m.store.objects = stands_of_room c.args.object m.store (omega arith) in
+    record {
+      low = omega arith;
+      high = omega arith;
+      memory = (rw (c.get-value.ensures, c.loop-gap.invariant.memory) at c.put.ensures.written) ∙ ap (λ (s : Store). with_store s m) (closed_more c.args.object c.args.place c.loop-gap.gap m.store stands c.loop-gap.invariant.low (omega arith));
+      literals = c.put.ensures.literals ∙ c.loop-gap.invariant.literals;
+    }
+
+pub returns-clause-closed : goal.returns-clause-closed
+returns-clause-closed g c =
+    let m = g.H.Heap.meaning c.args.heap.now in
+    let o = object_at c.args.object m.store in
+    let stands : c.args.object < length m.store.objects = stands_of_room c.args.object m.store (omega arith) in
+    let last : c.loop-gap.gap ≡ c.length-last.result - 1 = omega arith in
+    (rw (rw last at c.loop-gap.invariant.memory) at c.set_length.ensures.resized)
+    ∙ ap (λ (s : Store). with_store s m) (closed_all c.args.object c.args.place (c.length-last.result - 1) (get_or o.slots (c.length-last.result - 1) Nil) m.store stands c.requires.within (omega arith) c.requires.room)

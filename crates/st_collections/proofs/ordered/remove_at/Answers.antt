@@ -1,0 +1,13 @@
+use Rattle.std.proofs.Common.{ℕ, ◌≡◌, ◌∙◌, sym, refl, arith, ◌+◌, ◌-◌, ◌*◌, ◌≤◌, ◌<◌, ap, get_or, length}
+use Rattle.std.specs.List.{insert, remove}
+use Rattle.object_heap.specs.declared.value.Value.TheVariants.{Nil}
+use Rattle.object_heap.specs.Store.{Store, object_at, object_set}
+use Rattle.object_heap.specs.Charges.{with_store}
+use Rattle.st_collections.proofs.Gaps.{without_is}
+use Rattle.st_collections.proofs.ordered.remove_at.Goals as goal
+
+pub returns-clause-memory : goal.returns-clause-memory
+returns-clause-memory g c =
+    let m = g.H.Heap.meaning c.args.heap.now in
+    let o = object_at c.args.object m.store in
+    rw (without_is m.store c.args.object c.args.place c.requires.open) c.close_slot.ensures.closed

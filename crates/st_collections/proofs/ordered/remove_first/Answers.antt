@@ -1,0 +1,32 @@
+use Rattle.std.proofs.Common.{ℕ, ◌≡◌, ◌∙◌, sym, refl, arith, ◌+◌, ◌-◌, ◌*◌, ◌≤◌, ◌<◌, ap, get_or, length}
+use Rattle.std.specs.List.{insert, remove}
+use Rattle.object_heap.specs.declared.value.Value.TheVariants.{Nil}
+use Rattle.object_heap.specs.Store.{Store, object_at, object_set}
+use Rattle.object_heap.specs.Charges.{with_store}
+use Rattle.std.proofs.lemmas.Bool.{ne_eqb}
+use Rattle.st_collections.specs.SequenceRows.{without_element}
+use Rattle.st_collections.proofs.ordered.remove_first.Goals as goal
+
+pub returns-then-length-eq0-clause-memory : goal.returns-then-length-eq0-clause-memory
+returns-then-length-eq0-clause-memory g c =
+    let m = g.H.Heap.meaning c.args.heap.now in
+    let o = object_at c.args.object m.store in
+    rw (sym c.length.ensures ∙ c.if-length-eq0.true) refl
+
+pub returns-then-length-eq0-clause-answer : goal.returns-then-length-eq0-clause-answer
+returns-then-length-eq0-clause-answer g c =
+    let m = g.H.Heap.meaning c.args.heap.now in
+    let o = object_at c.args.object m.store in
+    rw (sym c.length.ensures ∙ c.if-length-eq0.true) refl
+
+pub returns-clause-memory : goal.returns-clause-memory
+returns-clause-memory g c =
+    let m = g.H.Heap.meaning c.args.heap.now in
+    let o = object_at c.args.object m.store in
+    rw (ne_eqb (length o.slots) 0 (λ e. c.if-length-eq0.false (c.length.ensures ∙ e))) c.remove_at.ensures.memory
+
+pub returns-clause-answer : goal.returns-clause-answer
+returns-clause-answer g c =
+    let m = g.H.Heap.meaning c.args.heap.now in
+    let o = object_at c.args.object m.store in
+    rw (ne_eqb (length o.slots) 0 (λ e. c.if-length-eq0.false (c.length.ensures ∙ e))) c.remove_at.ensures.answer

@@ -1,0 +1,15 @@
+use Rattle.std.proofs.Common.{◌∙◌, sym, arith, add_comm, ◌+◌}
+use Rattle.st_collections.specs.Answers.{program_of}
+use Rattle.st_collections.proofs.TextItems.{index-text, upper_is}
+use Rattle.st_collections.proofs.strings.new_upper.Goals as goal
+
+pub new_items-requires-clause-reads : goal.new_items-requires-clause-reads
+new_items-requires-clause-reads g c = λ k h. index-text (program_of c.args.names.now) (g.H.Heap.meaning c.args.heap.now).store c.args.text k c.text_length-count.result c.text_length-count.ensures (omega arith) h
+
+pub returns-clause-memory : goal.returns-clause-memory
+returns-clause-memory g c =
+    rw (upper_is (program_of c.args.names.now) (g.H.Heap.meaning c.args.heap.now).store c.args.text c.text_length-count.result c.text_length-count.ensures) c.new_items.ensures.memory
+
+pub returns-clause-answer : goal.returns-clause-answer
+returns-clause-answer g c =
+    rw (upper_is (program_of c.args.names.now) (g.H.Heap.meaning c.args.heap.now).store c.args.text c.text_length-count.result c.text_length-count.ensures) c.new_items.ensures.answer
