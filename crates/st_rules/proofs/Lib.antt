@@ -29,3 +29,5 @@ pub mod FlatBodies
 pub mod FlatOpened
 pub mod FlatRun
 pub mod FlatTop
+pub mod CompilableCheck
+pub mod CompilableRuns
