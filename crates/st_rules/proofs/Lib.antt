@@ -31,3 +31,5 @@ pub mod FlatRun
 pub mod FlatTop
 pub mod CompilableCheck
 pub mod CompilableRuns
+pub mod Targets
+pub mod Aims
