@@ -33,3 +33,4 @@ pub mod CompilableCheck
 pub mod CompilableRuns
 pub mod Targets
 pub mod Aims
+pub mod NeverStuck

@@ -1,9 +1,9 @@
 -- Where unwindings go: what of all that stands takes each target, and what holds of turns, environments and homes.
-use Rattle.std.proofs.Common.{◌≡◌, ℕ, zero, suc, ◌+◌, ◌<◌, ◌≤◌, ◌⊎◌, inl, inr, List, [], ◌∷◌, ◌++◌, Option, Some, None, Bool, true, false, refl, sym, ap, ◌∙◌, subst, arith, eq-eqb, eqb-true, true≢false, nat_eq, if◌then◌else◌}
+use Rattle.std.proofs.Common.{◌≡◌, ℕ, ◌+◌, ◌<◌, ◌≤◌, ◌⊎◌, inl, inr, List, [], ◌∷◌, ◌++◌, Option, Some, None, Bool, true, false, refl, sym, subst, arith, eq-eqb, eqb-true, true≢false, nat_eq, if◌then◌else◌}
 use Rattle.object_heap.specs.declared.value.Value.{Value}
 use Rattle.object_heap.specs.declared.value.Closure.{Closure}
-use Rattle.st_rules.specs.State.{State, Entry, Env, Target, Home, Protected, Retry, RetryWith, Resume, Resignal, Terminate, Outcome, Answer, Go, Stop, Turn, Mark, BodyMark, ProtectMark, ActionMark, LoopMark, WaitMark, OuterMark, SignalMark, TurnMark, number_of_mark, Frame, stands, FoundTurn, NoTurn, TurnAt, turn_of}
-use Rattle.st_rules.specs.Ends.{Result, Yields, NoIndex, body_end, left_end, turn_end, outer_end, SignalVerdict, Ends, Signals, signal_end, Verdict, Leaves, Again, protect_end, action_end, Search, Purpose, ForSignal, ForPass, ForOuter, ForNested, turn_for, asks_nested}
+use Rattle.st_rules.specs.State.{Entry, Env, Target, Home, Protected, Retry, RetryWith, Resume, Resignal, Terminate, Outcome, Answer, Go, Stop, Turn, Mark, BodyMark, ProtectMark, ActionMark, LoopMark, WaitMark, OuterMark, SignalMark, TurnMark, number_of_mark, Frame, stands, FoundTurn, NoTurn, TurnAt, turn_of}
+use Rattle.st_rules.specs.Ends.{body_end, outer_end, SignalVerdict, Ends, Signals, signal_end, Verdict, Leaves, Again, protect_end}
 
 abbrev pub In : (Mark → Type 0) → List Mark → Type 0
 In P [] = ⊥
