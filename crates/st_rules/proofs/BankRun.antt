@@ -74,7 +74,7 @@ bank_units =
     (MethodUnit (codes "Account") (record { selector = (codes "transfer:to:"); parameters = (110 ∷ []) ∷ (codes "other") ∷ []; body = (record { temporaries = (codes "log") ∷ []; statements = (more_statements false (ExprOf ((codes "log") ∷ []) (OperandOf (NameOf (codes "OrderedCollection")) (then_sent (codes "new") no_operands none_sent)) none_sent) (more_statements false (ExprOf ([]) (OperandOf (BlockOf ([]) ([]) ((more_statements false (ExprOf ([]) (OperandOf (NameOf (110 ∷ [])) (then_sent (62 ∷ []) (more_operands (OperandOf (NameOf (codes "MaxTransfer")) none_sent) no_operands) (then_sent (codes "ifTrue:") (more_operands (OperandOf (BlockOf ([]) ([]) ((more_statements false (ExprOf ([]) (OperandOf (NameOf (codes "Warning")) (then_sent (codes "signal:") (more_operands (OperandOf (LiteralOf (StringLiteral (codes "large transfer"))) none_sent) no_operands) none_sent)) none_sent) no_statements))) none_sent) no_operands) none_sent))) none_sent) (more_statements false (ExprOf ([]) (OperandOf SelfName (then_sent (codes "withdraw:") (more_operands (OperandOf (NameOf (110 ∷ [])) none_sent) no_operands) none_sent)) none_sent) (more_statements false (ExprOf ([]) (OperandOf (NameOf (codes "other")) (then_sent (codes "deposit:") (more_operands (OperandOf (NameOf (110 ∷ [])) none_sent) no_operands) none_sent)) none_sent) (more_statements false (ExprOf ([]) (OperandOf (NameOf (codes "log")) (then_sent (codes "add:") (more_operands (OperandOf (LiteralOf (StringLiteral (codes "done"))) none_sent) no_operands) none_sent)) none_sent) no_statements)))))) (then_sent (codes "ensure:") (more_operands (OperandOf (BlockOf ([]) ([]) ((more_statements false (ExprOf ([]) (OperandOf (NameOf (codes "Transcript")) (then_sent (codes "show:") (more_operands (OperandOf (LiteralOf (StringLiteral (codes "transfer "))) (then_sent (44 ∷ []) (more_operands (OperandOf (NameOf (110 ∷ [])) (then_sent (codes "printString") no_operands none_sent)) no_operands) none_sent)) no_operands) none_sent)) (then_sent (codes "cr") no_operands none_sent)) no_statements))) none_sent) no_operands) none_sent)) none_sent) (more_statements true (ExprOf ([]) (OperandOf (NameOf (codes "log")) (then_sent (codes "size") no_operands none_sent)) none_sent) no_statements))) }) })) ∷
     (ProgramUnit (record { temporaries = (97 ∷ []) ∷ (98 ∷ []) ∷ []; statements = (more_statements false (ExprOf ((97 ∷ []) ∷ []) (OperandOf (NameOf (codes "Account")) (then_sent (codes "owner:") (more_operands (OperandOf (LiteralOf (StringLiteral (codes "ann"))) none_sent) no_operands) none_sent)) none_sent) (more_statements false (ExprOf ((98 ∷ []) ∷ []) (OperandOf (NameOf (codes "Account")) (then_sent (codes "owner:") (more_operands (OperandOf (LiteralOf (StringLiteral (codes "bob"))) none_sent) no_operands) none_sent)) none_sent) (more_statements false (ExprOf ([]) (OperandOf (NameOf (97 ∷ [])) (then_sent (codes "deposit:") (more_operands (OperandOf (LiteralOf (IntegerLiteral (pos 1000))) none_sent) no_operands) none_sent)) none_sent) (more_statements false (ExprOf ([]) (OperandOf (NameOf (97 ∷ [])) (then_sent (codes "transfer:to:") (more_operands (OperandOf (LiteralOf (IntegerLiteral (pos 200))) none_sent) (more_operands (OperandOf (NameOf (98 ∷ [])) none_sent) no_operands)) none_sent)) none_sent) (more_statements false (ExprOf ([]) (OperandOf (NameOf (97 ∷ [])) (then_sent (codes "transfer:to:") (more_operands (OperandOf (LiteralOf (IntegerLiteral (pos 600))) none_sent) (more_operands (OperandOf (NameOf (98 ∷ [])) none_sent) no_operands)) none_sent)) none_sent) (more_statements false (ExprOf ([]) (OperandOf (BlockOf ([]) ([]) ((more_statements false (ExprOf ([]) (OperandOf (NameOf (97 ∷ [])) (then_sent (codes "transfer:to:") (more_operands (OperandOf (LiteralOf (IntegerLiteral (pos 400))) none_sent) (more_operands (OperandOf (NameOf (98 ∷ [])) none_sent) no_operands)) none_sent)) none_sent) no_statements))) (then_sent (codes "on:do:") (more_operands (OperandOf (NameOf (codes "Overdrawn")) none_sent) (more_operands (OperandOf (BlockOf ((101 ∷ []) ∷ []) ([]) ((more_statements false (ExprOf ([]) (OperandOf (NameOf (codes "Transcript")) (then_sent (codes "show:") (more_operands (OperandOf (NameOf (101 ∷ [])) (then_sent (codes "messageText") no_operands none_sent)) no_operands) none_sent)) (then_sent (codes "cr") no_operands none_sent)) no_statements))) none_sent) no_operands)) none_sent)) none_sent) (more_statements false (ExprOf ([]) (OperandOf (NameOf (codes "Transcript")) (then_sent (codes "show:") (more_operands (OperandOf (NameOf (97 ∷ [])) (then_sent (codes "balance") no_operands (then_sent (codes "printString") no_operands (then_sent (44 ∷ []) (more_operands (OperandOf (LiteralOf (StringLiteral (32 ∷ []))) none_sent) no_operands) (then_sent (44 ∷ []) (more_operands (OperandOf (NameOf (98 ∷ [])) (then_sent (codes "balance") no_operands (then_sent (codes "printString") no_operands none_sent))) no_operands) none_sent))))) no_operands) none_sent)) (then_sent (codes "cr") no_operands none_sent)) no_statements))))))) })) ∷ []
 
-abbrev bank : Program
+abbrev pub bank : Program
 bank = program_of ((codes "value") ∷ (codes "value:") ∷ (codes "value:value:") ∷ (61 ∷ []) ∷ (codes "defaultAction") ∷ (codes "isResumable") ∷ (codes "handles:") ∷ (codes "doesNotUnderstand:") ∷ (codes "printString") ∷ (codes "isNil") ∷ (codes "ifTrue:") ∷ (43 ∷ []) ∷ (codes "new") ∷ (codes "setOwner:") ∷ (codes "owner:") ∷ (codes "balance") ∷ (codes "deposit:") ∷ (62 ∷ []) ∷ (44 ∷ []) ∷ (codes "signal:") ∷ (45 ∷ []) ∷ (codes "withdraw:") ∷ (codes "add:") ∷ (codes "show:") ∷ (codes "cr") ∷ (codes "ensure:") ∷ (codes "size") ∷ (codes "transfer:to:") ∷ (codes "messageText") ∷ (codes "on:do:") ∷ []) bank_units (record { steps = 10000000; depth = 10000; cells = 4194304 })
 
 bank_runs : Reports bank 279 (record { ending = WasDone; transcript = codes "transfer 200\nWarning: large transfer\ntransfer 600\nann has only 200\ntransfer 400\n200 800\n"; steps = 89; depth = 11; cells = 94; events = (Event.Ensure 10) ∷ (Event.Action 10) ∷ (Event.End 10 false) ∷ (Event.Ensure 16) ∷ (Event.Signal 19) ∷ (Event.Search 19) ∷ (Event.Default 20) ∷ (Event.End 20 false) ∷ (Event.End 19 false) ∷ (Event.Action 16) ∷ (Event.End 16 false) ∷ (Event.Protect 24) ∷ (Event.Ensure 27) ∷ (Event.Signal 31) ∷ (Event.Search 31) ∷ (Event.Tried 24 true) ∷ (Event.Handle 32 24) ∷ (Event.End 32 true) ∷ (Event.End 31 true) ∷ (Event.Action 27) ∷ (Event.End 27 true) ∷ (Event.End 24 false) ∷ [] })

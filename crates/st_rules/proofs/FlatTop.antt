@@ -4,14 +4,16 @@ use Rattle.object_heap.specs.declared.value.Value.{Value}
 use Rattle.st_code.specs.Program.{Program, Initializer, body_at}
 use Rattle.st_rules.specs.State.{State, Answer, Go, Stop}
 use Rattle.st_rules.specs.Ends.{initializer_opening}
-use Rattle.st_rules.specs.Runs.{Ending, Stuck as Stranded, first_state, kept_value, end_of}
+use Rattle.st_rules.specs.Runs.{Runs, Ending, Stuck as Stranded, first_state, kept_value, end_of}
 use Rattle.st_rules.specs.Machine.{Mach, Run, Settle, Begin, Over, Stuck, Bodies}
 use Rattle.st_rules.specs.Scoped.{ScopedBody, scoped}
 use Rattle.st_rules.specs.Flat.{FlatBody}
 use Rattle.st_rules.specs.Turns.{Top, On, Ended, open_next, top_step, top_iter, opened_run, runs_of, instructions}
 use Rattle.st_rules.specs.Compilable.{AllInitializers, Compilable}
-use Rattle.st_rules.specs.Flattened.{flat_of, FlatFollows, FlatFollowsTheRules}
+use Rattle.st_rules.specs.Flattened.{flat_of, Alike, FlatFollows, FlatFollowsTheRules, RulesFollowTheFlat}
 use Rattle.st_rules.proofs.Flattening.{Places, flat_state, StoreHolds, Goes}
+use Rattle.st_rules.proofs.SomeRun.{rules_end}
+use Rattle.st_rules.proofs.NeverStuck.{machine_never_stuck}
 use Rattle.st_rules.proofs.FollowedRun.{follows_the_rules}
 use Rattle.st_rules.proofs.FlatOpened.{open_goes}
 use Rattle.st_rules.proofs.FlatRun.{step_law, chained_none}
@@ -147,11 +149,50 @@ module _ (p : Program) (ok : Compilable p) where
   opened_law = open_law first_places p.initializers (first_state p) first_holds ok.initializers
 
 pub flat_follows : FlatFollows
-flat_follows p ok n e st x other =
-    let a = arrives p ok n (opened_run (flat_of p) p) (opened_run (scoped p) p) e st (opened_law p ok) x other in
+flat_follows p ok n e st x =
+    let never : e ≡ Stranded → ⊥ = λ s. machine_never_stuck p n st (x ∙ ap (λ d. Ended d st) s) in
+    let a = arrives p ok n (opened_run (flat_of p) p) (opened_run (scoped p) p) e st (opened_law p ok) x never in
     record { state = flat_state a.places st; leads = a.leads; alike = refl; counted = a.counted }
 
 pub flat_follows_the_rules : FlatFollowsTheRules
-flat_follows_the_rules p ok e st r other =
+flat_follows_the_rules p ok e st r =
     let m = follows_the_rules p e st r in
-    (m.0, flat_follows p ok m.0 e st m.1 other)
+    (m.0, flat_follows p ok m.0 e st m.1)
+
+-- ---- the flat machine ends in one way
+
+module _ (p : Program) where
+  abbrev flat_run : Type 0
+  flat_run = Top FlatBody
+
+  abbrev flat_steps : ℕ → flat_run → flat_run
+  flat_steps n t = top_iter (flat_of p) p n t
+
+  steps_add : (j k : ℕ) (t : flat_run) → flat_steps (j + k) t ≡ flat_steps k (flat_steps j t)
+  steps_add zero k t = let e : 0 + k ≡ k = omega arith in ap (λ n. flat_steps n t) e
+  steps_add (suc j) k t = let e : suc j + k ≡ suc (j + k) = omega arith in ap (λ n. flat_steps n t) e ∙ steps_add j k (top_step (flat_of p) p t)
+
+  stays : (n : ℕ) (e : Ending) (st : State) → flat_steps n (Ended e st) ≡ Ended e st
+  stays zero e st = refl
+  stays (suc n) e st = stays n e st
+
+  abbrev over : Ending → State → flat_run
+  over e st = Ended e st
+
+  one_end : (t : flat_run) (i j : ℕ) (e e' : Ending) (st st' : State) → flat_steps i t ≡ Ended e st → flat_steps j t ≡ Ended e' st' → over e st ≡ over e' st'
+  one_end t i j e e' st st' x y =
+      let swap : i + j ≡ j + i = omega arith in
+      sym (stays j e st) ∙ sym (ap (flat_steps j) x) ∙ sym (steps_add i j t) ∙ ap (λ n. flat_steps n t) swap ∙ steps_add j i t ∙ ap (flat_steps i) y ∙ stays i e' st'
+
+  over_ending : (e e' : Ending) (st st' : State) → over e st ≡ over e' st' → e ≡ e'
+  over_ending e e' st st' h = cc
+
+  over_state : (e e' : Ending) (st st' : State) → over e st ≡ over e' st' → st ≡ st'
+  over_state e e' st st' h = cc
+
+pub rules_follow_the_flat : RulesFollowTheFlat
+rules_follow_the_flat p ok n e st x =
+    let r = rules_end p in
+    let f = flat_follows_the_rules p ok r.0 r.1 r.2 in
+    let same = one_end p (opened_run (flat_of p) p) f.0 n r.0 e f.1.state st f.1.leads x in
+    (r.1, subst (λ d. Runs p d r.1) (over_ending p r.0 e f.1.state st same) r.2, subst (λ s. Alike r.1 s) (over_state p r.0 e f.1.state st same) f.1.alike)

@@ -10,7 +10,7 @@ use Rattle.st_code.specs.Literals.{literal_string, trouble_literals}
 use Rattle.st_rules.proofs.Computing.{Reports, computing, WasDone, WasUnhandled, WasAtLimit}
 
 -- Global initializer!Transcript show: ([Error signal. 1] on: Error do: [:e | 7]) printString!
-abbrev handled : Program
+abbrev pub handled : Program
 handled =
     record {
       names = (codes "value") ∷ (codes "value:") ∷ (codes "value:value:") ∷ (61 ∷ []) ∷ (codes "defaultAction") ∷ (codes "isResumable") ∷ (codes "handles:") ∷ (codes "doesNotUnderstand:") ∷ (codes "printString") ∷ (codes "signal") ∷ (codes "on:do:") ∷ (codes "show:") ∷ [];
@@ -34,7 +34,7 @@ unfolding computing
 handled_runs = (refl, refl, refl)
 
 -- Global initializer!Transcript show: ([(Warning signal: 'w') + 1] on: Warning do: [:e | e resume: 5]) printString!
-abbrev resumed : Program
+abbrev pub resumed : Program
 resumed =
     record {
       names = (codes "value") ∷ (codes "value:") ∷ (codes "value:value:") ∷ (61 ∷ []) ∷ (codes "defaultAction") ∷ (codes "isResumable") ∷ (codes "handles:") ∷ (codes "doesNotUnderstand:") ∷ (codes "printString") ∷ (codes "signal:") ∷ (43 ∷ []) ∷ (codes "resume:") ∷ (codes "on:do:") ∷ (codes "show:") ∷ [];
@@ -58,7 +58,7 @@ unfolding computing
 resumed_runs = (refl, refl, refl)
 
 -- Global initializer![[Error signal] ensure: [Transcript show: 'u']] on: Error do: [:e | Transcript show: 'h']!
-abbrev unwound : Program
+abbrev pub unwound : Program
 unwound =
     record {
       names = (codes "value") ∷ (codes "value:") ∷ (codes "value:value:") ∷ (61 ∷ []) ∷ (codes "defaultAction") ∷ (codes "isResumable") ∷ (codes "handles:") ∷ (codes "doesNotUnderstand:") ∷ (codes "printString") ∷ (codes "signal") ∷ (codes "show:") ∷ (codes "ensure:") ∷ (codes "on:do:") ∷ [];
@@ -84,7 +84,7 @@ unfolding computing
 unwound_runs = (refl, refl, refl)
 
 -- Global initializer![[Error signal] ensure: [Transcript show: 'a']] ensure: [Transcript show: 'b']!
-abbrev unhandled : Program
+abbrev pub unhandled : Program
 unhandled =
     record {
       names = (codes "value") ∷ (codes "value:") ∷ (codes "value:value:") ∷ (61 ∷ []) ∷ (codes "defaultAction") ∷ (codes "isResumable") ∷ (codes "handles:") ∷ (codes "doesNotUnderstand:") ∷ (codes "printString") ∷ (codes "signal") ∷ (codes "show:") ∷ (codes "ensure:") ∷ [];
@@ -110,7 +110,7 @@ unfolding computing
 unhandled_runs = (refl, refl, refl)
 
 -- Global initializer!Transcript show: ([[Warning signal] on: Warning do: [:e | e return: e outer + 1]] on: Warning do: [:e | e resume: 4]) printString!
-abbrev outer_returned : Program
+abbrev pub outer_returned : Program
 outer_returned =
     record {
       names = (codes "value") ∷ (codes "value:") ∷ (codes "value:value:") ∷ (61 ∷ []) ∷ (codes "defaultAction") ∷ (codes "isResumable") ∷ (codes "handles:") ∷ (codes "doesNotUnderstand:") ∷ (codes "printString") ∷ (codes "signal") ∷ (codes "outer") ∷ (43 ∷ []) ∷ (codes "return:") ∷ (codes "on:do:") ∷ (codes "resume:") ∷ (codes "show:") ∷ [];
@@ -136,7 +136,7 @@ unfolding computing
 outer_returned_runs = (refl, refl, refl)
 
 -- Global initializer!Transcript show: ([[Warning signal + 10] on: Warning do: [:e | e pass. 0]] on: Warning do: [:e | e resume: 4]) printString!
-abbrev passed : Program
+abbrev pub passed : Program
 passed =
     record {
       names = (codes "value") ∷ (codes "value:") ∷ (codes "value:value:") ∷ (61 ∷ []) ∷ (codes "defaultAction") ∷ (codes "isResumable") ∷ (codes "handles:") ∷ (codes "doesNotUnderstand:") ∷ (codes "printString") ∷ (codes "signal") ∷ (43 ∷ []) ∷ (codes "pass") ∷ (codes "on:do:") ∷ (codes "resume:") ∷ (codes "show:") ∷ [];
@@ -162,7 +162,7 @@ unfolding computing
 passed_runs = (refl, refl, refl)
 
 -- Global initializer!Transcript show: ([[Error signal + 1] on: Error do: [:e | e resignalAs: Warning new]] on: Warning do: [:w | w resume: 3]) printString!
-abbrev resignaled : Program
+abbrev pub resignaled : Program
 resignaled =
     record {
       names = (codes "value") ∷ (codes "value:") ∷ (codes "value:value:") ∷ (61 ∷ []) ∷ (codes "defaultAction") ∷ (codes "isResumable") ∷ (codes "handles:") ∷ (codes "doesNotUnderstand:") ∷ (codes "printString") ∷ (codes "signal") ∷ (43 ∷ []) ∷ (codes "new") ∷ (codes "resignalAs:") ∷ (codes "on:do:") ∷ (codes "resume:") ∷ (codes "show:") ∷ [];
@@ -188,7 +188,7 @@ unfolding computing
 resignaled_runs = (refl, refl, refl)
 
 -- Global initializer!| n | n := 0. [[n := n + 1. n < 3 ifTrue: [Error signal]. n] ensure: [Transcript show: 'x']] on: Error do: [:e | e retry]. Transcript show: n printString!
-abbrev retried : Program
+abbrev pub retried : Program
 retried =
     record {
       names = (codes "value") ∷ (codes "value:") ∷ (codes "value:value:") ∷ (61 ∷ []) ∷ (codes "defaultAction") ∷ (codes "isResumable") ∷ (codes "handles:") ∷ (codes "doesNotUnderstand:") ∷ (codes "printString") ∷ (43 ∷ []) ∷ (60 ∷ []) ∷ (codes "signal") ∷ (codes "ifTrue:") ∷ (codes "show:") ∷ (codes "ensure:") ∷ (codes "retry") ∷ (codes "on:do:") ∷ [];
@@ -216,7 +216,7 @@ retried_runs = (refl, refl, refl)
 
 -- Global initializer!| n | n := 0. [[n := n + 1. n < 3 ifTrue: [Error signal]. n] ensure: [Transcript show: 'x']] on: Error do: [:e | e retry]. Transcript show: n printString!
 -- under the limits of 35 steps, depth 10000 and 4194304 cells
-abbrev retried_in_35_steps : Program
+abbrev pub retried_in_35_steps : Program
 retried_in_35_steps =
     record {
       names = (codes "value") ∷ (codes "value:") ∷ (codes "value:value:") ∷ (61 ∷ []) ∷ (codes "defaultAction") ∷ (codes "isResumable") ∷ (codes "handles:") ∷ (codes "doesNotUnderstand:") ∷ (codes "printString") ∷ (43 ∷ []) ∷ (60 ∷ []) ∷ (codes "signal") ∷ (codes "ifTrue:") ∷ (codes "show:") ∷ (codes "ensure:") ∷ (codes "retry") ∷ (codes "on:do:") ∷ [];
@@ -244,7 +244,7 @@ retried_in_35_steps_runs = (refl, refl, refl)
 
 -- Global initializer!| n | n := 0. [[n := n + 1. n < 3 ifTrue: [Error signal]. n] ensure: [Transcript show: 'x']] on: Error do: [:e | e retry]. Transcript show: n printString!
 -- under the limits of 34 steps, depth 10000 and 4194304 cells
-abbrev retried_in_34_steps : Program
+abbrev pub retried_in_34_steps : Program
 retried_in_34_steps =
     record {
       names = (codes "value") ∷ (codes "value:") ∷ (codes "value:value:") ∷ (61 ∷ []) ∷ (codes "defaultAction") ∷ (codes "isResumable") ∷ (codes "handles:") ∷ (codes "doesNotUnderstand:") ∷ (codes "printString") ∷ (43 ∷ []) ∷ (60 ∷ []) ∷ (codes "signal") ∷ (codes "ifTrue:") ∷ (codes "show:") ∷ (codes "ensure:") ∷ (codes "retry") ∷ (codes "on:do:") ∷ [];
@@ -272,7 +272,7 @@ retried_in_34_steps_runs = (refl, refl, refl)
 
 -- Global initializer!Transcript show: ([Error signal. 1] on: Error do: [:e | 7]) printString!
 -- under the limits of 10000000 steps, depth 5 and 4194304 cells
-abbrev handled_at_depth_5 : Program
+abbrev pub handled_at_depth_5 : Program
 handled_at_depth_5 =
     record {
       names = (codes "value") ∷ (codes "value:") ∷ (codes "value:value:") ∷ (61 ∷ []) ∷ (codes "defaultAction") ∷ (codes "isResumable") ∷ (codes "handles:") ∷ (codes "doesNotUnderstand:") ∷ (codes "printString") ∷ (codes "signal") ∷ (codes "on:do:") ∷ (codes "show:") ∷ [];
@@ -297,7 +297,7 @@ handled_at_depth_5_runs = (refl, refl, refl)
 
 -- Global initializer!Transcript show: ([Error signal. 1] on: Error do: [:e | 7]) printString!
 -- under the limits of 10000000 steps, depth 6 and 4194304 cells
-abbrev handled_at_depth_6 : Program
+abbrev pub handled_at_depth_6 : Program
 handled_at_depth_6 =
     record {
       names = (codes "value") ∷ (codes "value:") ∷ (codes "value:value:") ∷ (61 ∷ []) ∷ (codes "defaultAction") ∷ (codes "isResumable") ∷ (codes "handles:") ∷ (codes "doesNotUnderstand:") ∷ (codes "printString") ∷ (codes "signal") ∷ (codes "on:do:") ∷ (codes "show:") ∷ [];
@@ -322,7 +322,7 @@ handled_at_depth_6_runs = (refl, refl, refl)
 
 -- Global initializer!Transcript show: ([Error signal. 1] on: Error do: [:e | 7]) printString!
 -- under the limits of 10000000 steps, depth 10000 and 7 cells
-abbrev handled_with_7_cells : Program
+abbrev pub handled_with_7_cells : Program
 handled_with_7_cells =
     record {
       names = (codes "value") ∷ (codes "value:") ∷ (codes "value:value:") ∷ (61 ∷ []) ∷ (codes "defaultAction") ∷ (codes "isResumable") ∷ (codes "handles:") ∷ (codes "doesNotUnderstand:") ∷ (codes "printString") ∷ (codes "signal") ∷ (codes "on:do:") ∷ (codes "show:") ∷ [];
@@ -347,7 +347,7 @@ handled_with_7_cells_runs = (refl, refl, refl)
 
 -- Global initializer!Transcript show: ([Error signal. 1] on: Error do: [:e | 7]) printString!
 -- under the limits of 10000000 steps, depth 10000 and 8 cells
-abbrev handled_with_8_cells : Program
+abbrev pub handled_with_8_cells : Program
 handled_with_8_cells =
     record {
       names = (codes "value") ∷ (codes "value:") ∷ (codes "value:value:") ∷ (61 ∷ []) ∷ (codes "defaultAction") ∷ (codes "isResumable") ∷ (codes "handles:") ∷ (codes "doesNotUnderstand:") ∷ (codes "printString") ∷ (codes "signal") ∷ (codes "on:do:") ∷ (codes "show:") ∷ [];
@@ -371,7 +371,7 @@ unfolding computing
 handled_with_8_cells_runs = (refl, refl, refl)
 
 -- Global initializer!Transcript show: ([[Error signal] on: Error do: [:e | e resume: 1]] on: Error do: [:e | e messageText])!
-abbrev not_resumable : Program
+abbrev pub not_resumable : Program
 not_resumable =
     record {
       names = (codes "value") ∷ (codes "value:") ∷ (codes "value:value:") ∷ (61 ∷ []) ∷ (codes "defaultAction") ∷ (codes "isResumable") ∷ (codes "handles:") ∷ (codes "doesNotUnderstand:") ∷ (codes "printString") ∷ (codes "signal") ∷ (codes "resume:") ∷ (codes "on:do:") ∷ (codes "messageText") ∷ (codes "show:") ∷ [];
@@ -397,7 +397,7 @@ unfolding computing
 not_resumable_runs = (refl, refl, refl)
 
 -- Global initializer!Transcript show: ([Error signal. 1] on: Error do: [:e | e retryUsing: [9]]) printString!
-abbrev retry_using : Program
+abbrev pub retry_using : Program
 retry_using =
     record {
       names = (codes "value") ∷ (codes "value:") ∷ (codes "value:value:") ∷ (61 ∷ []) ∷ (codes "defaultAction") ∷ (codes "isResumable") ∷ (codes "handles:") ∷ (codes "doesNotUnderstand:") ∷ (codes "printString") ∷ (codes "signal") ∷ (codes "retryUsing:") ∷ (codes "on:do:") ∷ (codes "show:") ∷ [];
@@ -422,7 +422,7 @@ unfolding computing
 retry_using_runs = (refl, refl, refl)
 
 -- Global initializer!Transcript show: ([[Error signal] on: Warning do: [:w | 1]] on: Error do: [:e | e resignalAs: Warning new]) printString!
-abbrev resignal_searches_outside : Program
+abbrev pub resignal_searches_outside : Program
 resignal_searches_outside =
     record {
       names = (codes "value") ∷ (codes "value:") ∷ (codes "value:value:") ∷ (61 ∷ []) ∷ (codes "defaultAction") ∷ (codes "isResumable") ∷ (codes "handles:") ∷ (codes "doesNotUnderstand:") ∷ (codes "printString") ∷ (codes "signal") ∷ (codes "on:do:") ∷ (codes "new") ∷ (codes "resignalAs:") ∷ (codes "show:") ∷ [];
@@ -448,7 +448,7 @@ unfolding computing
 resignal_searches_outside_runs = (refl, refl, refl)
 
 -- Global initializer!Transcript show: ([Notification signal. 3] value) printString!
-abbrev notification : Program
+abbrev pub notification : Program
 notification =
     record {
       names = (codes "value") ∷ (codes "value:") ∷ (codes "value:value:") ∷ (61 ∷ []) ∷ (codes "defaultAction") ∷ (codes "isResumable") ∷ (codes "handles:") ∷ (codes "doesNotUnderstand:") ∷ (codes "printString") ∷ (codes "signal") ∷ (codes "show:") ∷ [];
@@ -471,7 +471,7 @@ unfolding computing
 notification_runs = (refl, refl, refl)
 
 -- Global initializer!Warning signal: 'w'!
-abbrev warning : Program
+abbrev pub warning : Program
 warning =
     record {
       names = (codes "value") ∷ (codes "value:") ∷ (codes "value:value:") ∷ (61 ∷ []) ∷ (codes "defaultAction") ∷ (codes "isResumable") ∷ (codes "handles:") ∷ (codes "doesNotUnderstand:") ∷ (codes "printString") ∷ (codes "signal:") ∷ [];
@@ -493,7 +493,7 @@ unfolding computing
 warning_runs = (refl, refl, refl)
 
 -- Class named: 'Q' superclass: 'Object'!Q method!handles: e ^e messageText = 'x'!Global initializer!Transcript show: ([Error signal: 'x'. 1] on: Q new do: [:e | 7]) printString!
-abbrev asked_selector : Program
+abbrev pub asked_selector : Program
 asked_selector =
     record {
       names = (codes "value") ∷ (codes "value:") ∷ (codes "value:value:") ∷ (61 ∷ []) ∷ (codes "defaultAction") ∷ (codes "isResumable") ∷ (codes "handles:") ∷ (codes "doesNotUnderstand:") ∷ (codes "printString") ∷ (codes "messageText") ∷ (codes "signal:") ∷ (codes "new") ∷ (codes "on:do:") ∷ (codes "show:") ∷ [];
@@ -518,7 +518,7 @@ unfolding computing
 asked_selector_runs = (refl, refl, refl)
 
 -- Class named: 'Q' superclass: 'Object'!Q method!handles: e ^e messageText = 'x'!Global initializer!Transcript show: ([[Error signal: 'y'. 1] on: Q new do: [:e | 7]] on: Error do: [:e | 8]) printString!
-abbrev asked_selector_no : Program
+abbrev pub asked_selector_no : Program
 asked_selector_no =
     record {
       names = (codes "value") ∷ (codes "value:") ∷ (codes "value:value:") ∷ (61 ∷ []) ∷ (codes "defaultAction") ∷ (codes "isResumable") ∷ (codes "handles:") ∷ (codes "doesNotUnderstand:") ∷ (codes "printString") ∷ (codes "messageText") ∷ (codes "signal:") ∷ (codes "new") ∷ (codes "on:do:") ∷ (codes "show:") ∷ [];
@@ -545,7 +545,7 @@ unfolding computing
 asked_selector_no_runs = (refl, refl, refl)
 
 -- Class named: 'Q' superclass: 'Object'!Q method!handles: e ^Error signal: 'z'!Global initializer!Transcript show: ([[Error signal: 'x'] on: Q new do: [:e | 'in']] on: Error do: [:e | e return: e messageText])!
-abbrev question_outside : Program
+abbrev pub question_outside : Program
 question_outside =
     record {
       names = (codes "value") ∷ (codes "value:") ∷ (codes "value:value:") ∷ (61 ∷ []) ∷ (codes "defaultAction") ∷ (codes "isResumable") ∷ (codes "handles:") ∷ (codes "doesNotUnderstand:") ∷ (codes "printString") ∷ (codes "signal:") ∷ (codes "new") ∷ (codes "on:do:") ∷ (codes "messageText") ∷ (codes "return:") ∷ (codes "show:") ∷ [];

@@ -29,3 +29,8 @@ pub mod FlatBodies
 pub mod FlatOpened
 pub mod FlatRun
 pub mod FlatTop
+pub mod CompilableCheck
+pub mod CompilableRuns
+pub mod Targets
+pub mod Aims
+pub mod NeverStuck

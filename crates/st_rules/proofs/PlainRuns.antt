@@ -10,7 +10,7 @@ use Rattle.st_code.specs.Literals.{literal_string, literal_array, trouble_litera
 use Rattle.st_rules.proofs.Computing.{Reports, computing, WasDone, WasUnhandled, WasAtLimit}
 
 -- Global initializer!Transcript show: 'hi'; cr!
-abbrev first_line : Program
+abbrev pub first_line : Program
 first_line =
     record {
       names = (codes "value") ∷ (codes "value:") ∷ (codes "value:value:") ∷ (61 ∷ []) ∷ (codes "defaultAction") ∷ (codes "isResumable") ∷ (codes "handles:") ∷ (codes "doesNotUnderstand:") ∷ (codes "printString") ∷ (codes "show:") ∷ (codes "cr") ∷ [];
@@ -32,7 +32,7 @@ unfolding computing
 first_line_runs = (refl, refl, refl)
 
 -- Class named: 'Q' superclass: 'Object'!Q method!twice: n ^n + n!Global initializer!Transcript show: (Q new twice: 21) printString!
-abbrev method_sent : Program
+abbrev pub method_sent : Program
 method_sent =
     record {
       names = (codes "value") ∷ (codes "value:") ∷ (codes "value:value:") ∷ (61 ∷ []) ∷ (codes "defaultAction") ∷ (codes "isResumable") ∷ (codes "handles:") ∷ (codes "doesNotUnderstand:") ∷ (codes "printString") ∷ (43 ∷ []) ∷ (codes "twice:") ∷ (codes "new") ∷ (codes "show:") ∷ [];
@@ -55,7 +55,7 @@ unfolding computing
 method_sent_runs = (refl, refl, refl)
 
 -- Global initializer!| n | n := 0. [n < 3] whileTrue: [n := n + 1]. Transcript show: n printString!
-abbrev while_loop : Program
+abbrev pub while_loop : Program
 while_loop =
     record {
       names = (codes "value") ∷ (codes "value:") ∷ (codes "value:value:") ∷ (61 ∷ []) ∷ (codes "defaultAction") ∷ (codes "isResumable") ∷ (codes "handles:") ∷ (codes "doesNotUnderstand:") ∷ (codes "printString") ∷ (60 ∷ []) ∷ (43 ∷ []) ∷ (codes "whileTrue:") ∷ (codes "show:") ∷ [];
@@ -79,7 +79,7 @@ unfolding computing
 while_loop_runs = (refl, refl, refl)
 
 -- Global initializer!170141183460469231731687303715884105727 + 1!
-abbrev integer_limit : Program
+abbrev pub integer_limit : Program
 integer_limit =
     record {
       names = (codes "value") ∷ (codes "value:") ∷ (codes "value:value:") ∷ (61 ∷ []) ∷ (codes "defaultAction") ∷ (codes "isResumable") ∷ (codes "handles:") ∷ (codes "doesNotUnderstand:") ∷ (codes "printString") ∷ (43 ∷ []) ∷ [];
@@ -101,7 +101,7 @@ unfolding computing
 integer_limit_runs = (refl, refl, refl)
 
 -- Global initializer!3 foo!
-abbrev not_understood : Program
+abbrev pub not_understood : Program
 not_understood =
     record {
       names = (codes "value") ∷ (codes "value:") ∷ (codes "value:value:") ∷ (61 ∷ []) ∷ (codes "defaultAction") ∷ (codes "isResumable") ∷ (codes "handles:") ∷ (codes "doesNotUnderstand:") ∷ (codes "printString") ∷ (codes "foo") ∷ [];
@@ -123,7 +123,7 @@ unfolding computing
 not_understood_runs = (refl, refl, refl)
 
 -- Global initializer!Transcript show: ([3 foo + 1] on: MessageNotUnderstood do: [:e | e resume: 41]) printString!
-abbrev not_understood_resumed : Program
+abbrev pub not_understood_resumed : Program
 not_understood_resumed =
     record {
       names = (codes "value") ∷ (codes "value:") ∷ (codes "value:value:") ∷ (61 ∷ []) ∷ (codes "defaultAction") ∷ (codes "isResumable") ∷ (codes "handles:") ∷ (codes "doesNotUnderstand:") ∷ (codes "printString") ∷ (codes "foo") ∷ (43 ∷ []) ∷ (codes "resume:") ∷ (codes "on:do:") ∷ (codes "show:") ∷ [];
@@ -147,7 +147,7 @@ unfolding computing
 not_understood_resumed_runs = (refl, refl, refl)
 
 -- Global initializer!Transcript show: ([7 // 0 + 1] on: ZeroDivide do: [:e | e resume: 5]) printString!
-abbrev zero_divide_resumed : Program
+abbrev pub zero_divide_resumed : Program
 zero_divide_resumed =
     record {
       names = (codes "value") ∷ (codes "value:") ∷ (codes "value:value:") ∷ (61 ∷ []) ∷ (codes "defaultAction") ∷ (codes "isResumable") ∷ (codes "handles:") ∷ (codes "doesNotUnderstand:") ∷ (codes "printString") ∷ (codes "//") ∷ (43 ∷ []) ∷ (codes "resume:") ∷ (codes "on:do:") ∷ (codes "show:") ∷ [];
@@ -171,7 +171,7 @@ unfolding computing
 zero_divide_resumed_runs = (refl, refl, refl)
 
 -- Global initializer!Transcript show: ((1 / 3) + (1 / 6)) printString!
-abbrev fractions_added : Program
+abbrev pub fractions_added : Program
 fractions_added =
     record {
       names = (codes "value") ∷ (codes "value:") ∷ (codes "value:value:") ∷ (61 ∷ []) ∷ (codes "defaultAction") ∷ (codes "isResumable") ∷ (codes "handles:") ∷ (codes "doesNotUnderstand:") ∷ (codes "printString") ∷ (47 ∷ []) ∷ (43 ∷ []) ∷ (codes "show:") ∷ [];
@@ -193,7 +193,7 @@ unfolding computing
 fractions_added_runs = (refl, refl, refl)
 
 -- Global initializer!Transcript show: (6 / -4) printString!
-abbrev negative_quotient : Program
+abbrev pub negative_quotient : Program
 negative_quotient =
     record {
       names = (codes "value") ∷ (codes "value:") ∷ (codes "value:value:") ∷ (61 ∷ []) ∷ (codes "defaultAction") ∷ (codes "isResumable") ∷ (codes "handles:") ∷ (codes "doesNotUnderstand:") ∷ (codes "printString") ∷ (47 ∷ []) ∷ (codes "show:") ∷ [];
@@ -215,7 +215,7 @@ unfolding computing
 negative_quotient_runs = (refl, refl, refl)
 
 -- Global initializer!Transcript show: (6 / 3) printString!
-abbrev whole_quotient : Program
+abbrev pub whole_quotient : Program
 whole_quotient =
     record {
       names = (codes "value") ∷ (codes "value:") ∷ (codes "value:value:") ∷ (61 ∷ []) ∷ (codes "defaultAction") ∷ (codes "isResumable") ∷ (codes "handles:") ∷ (codes "doesNotUnderstand:") ∷ (codes "printString") ∷ (47 ∷ []) ∷ (codes "show:") ∷ [];
@@ -237,7 +237,7 @@ unfolding computing
 whole_quotient_runs = (refl, refl, refl)
 
 -- Global initializer!Transcript show: ((1 / 3) < (170141183460469231731687303715884105727 / 3)) printString!
-abbrev fractions_compared : Program
+abbrev pub fractions_compared : Program
 fractions_compared =
     record {
       names = (codes "value") ∷ (codes "value:") ∷ (codes "value:value:") ∷ (61 ∷ []) ∷ (codes "defaultAction") ∷ (codes "isResumable") ∷ (codes "handles:") ∷ (codes "doesNotUnderstand:") ∷ (codes "printString") ∷ (47 ∷ []) ∷ (60 ∷ []) ∷ (codes "show:") ∷ [];
@@ -259,7 +259,7 @@ unfolding computing
 fractions_compared_runs = (refl, refl, refl)
 
 -- Global initializer!Transcript show: ((1 / 170141183460469231731687303715884105727) + (1 / 2)) printString!
-abbrev fraction_limit : Program
+abbrev pub fraction_limit : Program
 fraction_limit =
     record {
       names = (codes "value") ∷ (codes "value:") ∷ (codes "value:value:") ∷ (61 ∷ []) ∷ (codes "defaultAction") ∷ (codes "isResumable") ∷ (codes "handles:") ∷ (codes "doesNotUnderstand:") ∷ (codes "printString") ∷ (47 ∷ []) ∷ (43 ∷ []) ∷ (codes "show:") ∷ [];
@@ -281,7 +281,7 @@ unfolding computing
 fraction_limit_runs = (refl, refl, refl)
 
 -- Global initializer!Transcript show: ([(1 / 3) / 0 + 1] on: ZeroDivide do: [:e | 0]) printString!
-abbrev fraction_by_zero : Program
+abbrev pub fraction_by_zero : Program
 fraction_by_zero =
     record {
       names = (codes "value") ∷ (codes "value:") ∷ (codes "value:value:") ∷ (61 ∷ []) ∷ (codes "defaultAction") ∷ (codes "isResumable") ∷ (codes "handles:") ∷ (codes "doesNotUnderstand:") ∷ (codes "printString") ∷ (47 ∷ []) ∷ (43 ∷ []) ∷ (codes "on:do:") ∷ (codes "show:") ∷ [];
@@ -305,7 +305,7 @@ unfolding computing
 fraction_by_zero_runs = (refl, refl, refl)
 
 -- Global initializer!Transcript show: (#(1 2 3) inject: 0 into: [:a :x | a + x]) printString!
-abbrev injected : Program
+abbrev pub injected : Program
 injected =
     record {
       names = (codes "value") ∷ (codes "value:") ∷ (codes "value:value:") ∷ (61 ∷ []) ∷ (codes "defaultAction") ∷ (codes "isResumable") ∷ (codes "handles:") ∷ (codes "doesNotUnderstand:") ∷ (codes "printString") ∷ (43 ∷ []) ∷ (codes "inject:into:") ∷ (codes "show:") ∷ [];
@@ -328,7 +328,7 @@ unfolding computing
 injected_runs = (refl, refl, refl)
 
 -- Global initializer!Transcript show: ('ab' , 'cd' reverse)!
-abbrev joined : Program
+abbrev pub joined : Program
 joined =
     record {
       names = (codes "value") ∷ (codes "value:") ∷ (codes "value:value:") ∷ (61 ∷ []) ∷ (codes "defaultAction") ∷ (codes "isResumable") ∷ (codes "handles:") ∷ (codes "doesNotUnderstand:") ∷ (codes "printString") ∷ (codes "reverse") ∷ (44 ∷ []) ∷ (codes "show:") ∷ [];
@@ -350,7 +350,7 @@ unfolding computing
 joined_runs = (refl, refl, refl)
 
 -- Class named: 'Q' superclass: 'Object'!Q method!= o ^true!Global initializer!| s | s := Set new. s add: Q new; add: Q new. Transcript show: s size printString!
-abbrev set_by_equality : Program
+abbrev pub set_by_equality : Program
 set_by_equality =
     record {
       names = (codes "value") ∷ (codes "value:") ∷ (codes "value:value:") ∷ (61 ∷ []) ∷ (codes "defaultAction") ∷ (codes "isResumable") ∷ (codes "handles:") ∷ (codes "doesNotUnderstand:") ∷ (codes "printString") ∷ (codes "new") ∷ (codes "add:") ∷ (codes "size") ∷ (codes "show:") ∷ [];
@@ -373,7 +373,7 @@ unfolding computing
 set_by_equality_runs = (refl, refl, refl)
 
 -- Global initializer!#(1) at: 1 put: 2!
-abbrev literal_read_only : Program
+abbrev pub literal_read_only : Program
 literal_read_only =
     record {
       names = (codes "value") ∷ (codes "value:") ∷ (codes "value:value:") ∷ (61 ∷ []) ∷ (codes "defaultAction") ∷ (codes "isResumable") ∷ (codes "handles:") ∷ (codes "doesNotUnderstand:") ∷ (codes "printString") ∷ (codes "at:put:") ∷ [];
@@ -395,7 +395,7 @@ unfolding computing
 literal_read_only_runs = (refl, refl, refl)
 
 -- Global initializer!| c | c := OrderedCollection new. c add: 1; add: 2; add: 3. c do: [:x | Transcript show: x printString] separatedBy: [c removeLast. c removeLast]!
-abbrev separator_shrinks : Program
+abbrev pub separator_shrinks : Program
 separator_shrinks =
     record {
       names = (codes "value") ∷ (codes "value:") ∷ (codes "value:value:") ∷ (61 ∷ []) ∷ (codes "defaultAction") ∷ (codes "isResumable") ∷ (codes "handles:") ∷ (codes "doesNotUnderstand:") ∷ (codes "printString") ∷ (codes "new") ∷ (codes "add:") ∷ (codes "show:") ∷ (codes "removeLast") ∷ (codes "do:separatedBy:") ∷ [];
@@ -419,7 +419,7 @@ unfolding computing
 separator_shrinks_runs = (refl, refl, refl)
 
 -- Global initializer!| c | c := OrderedCollection new. c add: 1; add: 2; add: 3; add: 4. c reverseDo: [:x | Transcript show: x printString. c removeLast. c removeLast]!
-abbrev reverse_shrinks : Program
+abbrev pub reverse_shrinks : Program
 reverse_shrinks =
     record {
       names = (codes "value") ∷ (codes "value:") ∷ (codes "value:value:") ∷ (61 ∷ []) ∷ (codes "defaultAction") ∷ (codes "isResumable") ∷ (codes "handles:") ∷ (codes "doesNotUnderstand:") ∷ (codes "printString") ∷ (codes "new") ∷ (codes "add:") ∷ (codes "show:") ∷ (codes "removeLast") ∷ (codes "reverseDo:") ∷ [];
@@ -442,7 +442,7 @@ unfolding computing
 reverse_shrinks_runs = (refl, refl, refl)
 
 -- Global initializer!| c | c := OrderedCollection new. c add: 1; add: 2; add: 3. Transcript show: (c detect: [:x | c removeFirst. true]) printString!
-abbrev detect_gone : Program
+abbrev pub detect_gone : Program
 detect_gone =
     record {
       names = (codes "value") ∷ (codes "value:") ∷ (codes "value:value:") ∷ (61 ∷ []) ∷ (codes "defaultAction") ∷ (codes "isResumable") ∷ (codes "handles:") ∷ (codes "doesNotUnderstand:") ∷ (codes "printString") ∷ (codes "new") ∷ (codes "add:") ∷ (codes "removeFirst") ∷ (codes "detect:") ∷ (codes "show:") ∷ [];
@@ -465,7 +465,7 @@ unfolding computing
 detect_gone_runs = (refl, refl, refl)
 
 -- Global initializer!| c | c := OrderedCollection new. c add: 1; add: 2; add: 3. Transcript show: (c select: [:x | c removeFirst. true]) last printString!
-abbrev select_gone : Program
+abbrev pub select_gone : Program
 select_gone =
     record {
       names = (codes "value") ∷ (codes "value:") ∷ (codes "value:value:") ∷ (61 ∷ []) ∷ (codes "defaultAction") ∷ (codes "isResumable") ∷ (codes "handles:") ∷ (codes "doesNotUnderstand:") ∷ (codes "printString") ∷ (codes "new") ∷ (codes "add:") ∷ (codes "removeFirst") ∷ (codes "select:") ∷ (codes "last") ∷ (codes "show:") ∷ [];
@@ -488,7 +488,7 @@ unfolding computing
 select_gone_runs = (refl, refl, refl)
 
 -- Class named: 'Q' superclass: 'Object'!Global variable: 'C'!Q method!= o C removeFirst. ^true!Global initializer!C := OrderedCollection new. C add: 5; add: 6; add: 7. Transcript show: (C remove: Q new) printString; show: C size printString!
-abbrev search_rereads : Program
+abbrev pub search_rereads : Program
 search_rereads =
     record {
       names = (codes "value") ∷ (codes "value:") ∷ (codes "value:value:") ∷ (61 ∷ []) ∷ (codes "defaultAction") ∷ (codes "isResumable") ∷ (codes "handles:") ∷ (codes "doesNotUnderstand:") ∷ (codes "printString") ∷ (codes "removeFirst") ∷ (codes "new") ∷ (codes "add:") ∷ (codes "show:") ∷ (codes "remove:") ∷ (codes "size") ∷ [];
@@ -511,7 +511,7 @@ unfolding computing
 search_rereads_runs = (refl, refl, refl)
 
 -- Global initializer!| d | d := Dictionary new. d at: 1 ifAbsentPut: [d at: 1 put: 2. 3]. Transcript show: d size printString; show: (d at: 1) printString!
-abbrev if_absent_put_twice : Program
+abbrev pub if_absent_put_twice : Program
 if_absent_put_twice =
     record {
       names = (codes "value") ∷ (codes "value:") ∷ (codes "value:value:") ∷ (61 ∷ []) ∷ (codes "defaultAction") ∷ (codes "isResumable") ∷ (codes "handles:") ∷ (codes "doesNotUnderstand:") ∷ (codes "printString") ∷ (codes "new") ∷ (codes "at:put:") ∷ (codes "at:ifAbsentPut:") ∷ (codes "show:") ∷ (codes "size") ∷ (codes "at:") ∷ [];
@@ -534,7 +534,7 @@ unfolding computing
 if_absent_put_twice_runs = (refl, refl, refl)
 
 -- Class named: 'Q' superclass: 'Object'!Global variable: 'C'!Q method!= o C removeLast. ^true!Global initializer!| a | C := OrderedCollection new. C add: 1; add: 2. a := OrderedCollection new. a add: Q new; add: Q new. Transcript show: (a = C) printString!
-abbrev equal_shorter : Program
+abbrev pub equal_shorter : Program
 equal_shorter =
     record {
       names = (codes "value") ∷ (codes "value:") ∷ (codes "value:value:") ∷ (61 ∷ []) ∷ (codes "defaultAction") ∷ (codes "isResumable") ∷ (codes "handles:") ∷ (codes "doesNotUnderstand:") ∷ (codes "printString") ∷ (codes "removeLast") ∷ (codes "new") ∷ (codes "add:") ∷ (codes "show:") ∷ [];
@@ -557,7 +557,7 @@ unfolding computing
 equal_shorter_runs = (refl, refl, refl)
 
 -- Class named: 'A' superclass: 'Object'!A method!m Transcript show: 'A'!Class named: 'B' superclass: 'A'!B method!m Transcript show: 'B'!B method!n super m; m; yourself!Global initializer!B new n!
-abbrev cascade_super : Program
+abbrev pub cascade_super : Program
 cascade_super =
     record {
       names = (codes "value") ∷ (codes "value:") ∷ (codes "value:value:") ∷ (61 ∷ []) ∷ (codes "defaultAction") ∷ (codes "isResumable") ∷ (codes "handles:") ∷ (codes "doesNotUnderstand:") ∷ (codes "printString") ∷ (codes "show:") ∷ (109 ∷ []) ∷ (codes "yourself") ∷ (110 ∷ []) ∷ (codes "new") ∷ [];
@@ -582,7 +582,7 @@ unfolding computing
 cascade_super_runs = (refl, refl, refl)
 
 -- Global initializer!Transcript show: ([:a :b | [:c | a + c] value: b] value: 1 value: 2) printString!
-abbrev captured_parameter : Program
+abbrev pub captured_parameter : Program
 captured_parameter =
     record {
       names = (codes "value") ∷ (codes "value:") ∷ (codes "value:value:") ∷ (61 ∷ []) ∷ (codes "defaultAction") ∷ (codes "isResumable") ∷ (codes "handles:") ∷ (codes "doesNotUnderstand:") ∷ (codes "printString") ∷ (43 ∷ []) ∷ (codes "show:") ∷ [];
@@ -606,7 +606,7 @@ unfolding computing
 captured_parameter_runs = (refl, refl, refl)
 
 -- Global initializer!Transcript show: ([3 foo: 4. 1] on: MessageNotUnderstood do: [:e | e message arguments size]) printString!
-abbrev charges_of_failed_send : Program
+abbrev pub charges_of_failed_send : Program
 charges_of_failed_send =
     record {
       names = (codes "value") ∷ (codes "value:") ∷ (codes "value:value:") ∷ (61 ∷ []) ∷ (codes "defaultAction") ∷ (codes "isResumable") ∷ (codes "handles:") ∷ (codes "doesNotUnderstand:") ∷ (codes "printString") ∷ (codes "foo:") ∷ (codes "message") ∷ (codes "arguments") ∷ (codes "size") ∷ (codes "on:do:") ∷ (codes "show:") ∷ [];
@@ -630,7 +630,7 @@ unfolding computing
 charges_of_failed_send_runs = (refl, refl, refl)
 
 -- Class named: 'A' superclass: 'Object'!Class named: 'B' superclass: 'A'!Class named: 'C' superclass: 'B'!A method!m ^1!B method!m ^super m + 1!Global initializer!Transcript show: C new m printString!
-abbrev super_sent : Program
+abbrev pub super_sent : Program
 super_sent =
     record {
       names = (codes "value") ∷ (codes "value:") ∷ (codes "value:value:") ∷ (61 ∷ []) ∷ (codes "defaultAction") ∷ (codes "isResumable") ∷ (codes "handles:") ∷ (codes "doesNotUnderstand:") ∷ (codes "printString") ∷ (codes "m") ∷ (43 ∷ []) ∷ (codes "new") ∷ (codes "show:") ∷ [];

@@ -9,7 +9,7 @@ use Rattle.st_code.specs.Literals.{literal_string, trouble_literals}
 use Rattle.st_rules.proofs.Computing.{Reports, computing, WasDone}
 
 -- Global initializer!Transcript show: ([[Error signal] on: Error do: [:e | e resume: 1]] on: Error do: [:e | e messageText])!
-abbrev resume_not_resumable_depth : Program
+abbrev pub resume_not_resumable_depth : Program
 resume_not_resumable_depth =
     record {
       names = (codes "value") ∷ (codes "value:") ∷ (codes "value:value:") ∷ (61 ∷ []) ∷ (codes "defaultAction") ∷ (codes "isResumable") ∷ (codes "handles:") ∷ (codes "doesNotUnderstand:") ∷ (codes "printString") ∷ (codes "signal") ∷ (codes "resume:") ∷ (codes "on:do:") ∷ (codes "messageText") ∷ (codes "show:") ∷ [];
@@ -35,7 +35,7 @@ unfolding computing
 resume_not_resumable_depth_runs = (refl, refl, refl)
 
 -- Class named: 'F' superclass: 'Error'!Error method!isResumable ^true!F method!isResumable ^false!Global initializer!Transcript show: ([[F signal. 1] on: F do: [:e | (e resume: 1) == true]] on: Error do: [:e | e resume: true]) printString!
-abbrev resume_error_answers : Program
+abbrev pub resume_error_answers : Program
 resume_error_answers =
     record {
       names = (codes "value") ∷ (codes "value:") ∷ (codes "value:value:") ∷ (61 ∷ []) ∷ (codes "defaultAction") ∷ (codes "isResumable") ∷ (codes "handles:") ∷ (codes "doesNotUnderstand:") ∷ (codes "printString") ∷ (codes "signal") ∷ (codes "resume:") ∷ (codes "==") ∷ (codes "on:do:") ∷ (codes "show:") ∷ [];
@@ -63,7 +63,7 @@ unfolding computing
 resume_error_answers_runs = (refl, refl, refl)
 
 -- Class named: 'E' superclass: 'Exception'!E method!defaultAction ^5!E method!isResumable ^true!Global initializer!Transcript show: ([E signal + 1] on: E do: [:e | e pass. Transcript show: 'no'. 3]) printString!
-abbrev pass_default_unwinds : Program
+abbrev pub pass_default_unwinds : Program
 pass_default_unwinds =
     record {
       names = (codes "value") ∷ (codes "value:") ∷ (codes "value:value:") ∷ (61 ∷ []) ∷ (codes "defaultAction") ∷ (codes "isResumable") ∷ (codes "handles:") ∷ (codes "doesNotUnderstand:") ∷ (codes "printString") ∷ (codes "signal") ∷ (43 ∷ []) ∷ (codes "pass") ∷ (codes "show:") ∷ (codes "on:do:") ∷ [];
@@ -89,7 +89,7 @@ unfolding computing
 pass_default_unwinds_runs = (refl, refl, refl)
 
 -- Class named: 'E' superclass: 'Exception'!E method!defaultAction ^5!E method!isResumable ^true!Global initializer!Transcript show: ([E signal + 1] on: E do: [:e | e return: e outer + 20]) printString!
-abbrev outer_default_returns : Program
+abbrev pub outer_default_returns : Program
 outer_default_returns =
     record {
       names = (codes "value") ∷ (codes "value:") ∷ (codes "value:value:") ∷ (61 ∷ []) ∷ (codes "defaultAction") ∷ (codes "isResumable") ∷ (codes "handles:") ∷ (codes "doesNotUnderstand:") ∷ (codes "printString") ∷ (codes "signal") ∷ (43 ∷ []) ∷ (codes "outer") ∷ (codes "return:") ∷ (codes "on:do:") ∷ (codes "show:") ∷ [];
@@ -115,7 +115,7 @@ unfolding computing
 outer_default_returns_runs = (refl, refl, refl)
 
 -- Class named: 'E' superclass: 'Exception'!E method!defaultAction ^5!E method!isResumable ^true!Global initializer!Transcript show: ([[E signal + 100] on: E do: [:e | | v | v := e outer. e resume: v + 1]] on: E do: [:e | e resume: 10]) printString!
-abbrev outer_then_resume : Program
+abbrev pub outer_then_resume : Program
 outer_then_resume =
     record {
       names = (codes "value") ∷ (codes "value:") ∷ (codes "value:value:") ∷ (61 ∷ []) ∷ (codes "defaultAction") ∷ (codes "isResumable") ∷ (codes "handles:") ∷ (codes "doesNotUnderstand:") ∷ (codes "printString") ∷ (codes "signal") ∷ (43 ∷ []) ∷ (codes "outer") ∷ (codes "resume:") ∷ (codes "on:do:") ∷ (codes "show:") ∷ [];
@@ -143,7 +143,7 @@ unfolding computing
 outer_then_resume_runs = (refl, refl, refl)
 
 -- Class named: 'E' superclass: 'Exception'!E method!defaultAction ^5!E method!isResumable ^true!Global initializer!Transcript show: ([[E signal] on: E do: [:e | [e outer] ensure: [Transcript show: 'x']. 1]] on: E do: [:e | e return: 3]) printString!
-abbrev outer_return_past_point : Program
+abbrev pub outer_return_past_point : Program
 outer_return_past_point =
     record {
       names = (codes "value") ∷ (codes "value:") ∷ (codes "value:value:") ∷ (61 ∷ []) ∷ (codes "defaultAction") ∷ (codes "isResumable") ∷ (codes "handles:") ∷ (codes "doesNotUnderstand:") ∷ (codes "printString") ∷ (codes "signal") ∷ (codes "outer") ∷ (codes "show:") ∷ (codes "ensure:") ∷ (codes "on:do:") ∷ (codes "return:") ∷ [];
@@ -173,7 +173,7 @@ unfolding computing
 outer_return_past_point_runs = (refl, refl, refl)
 
 -- Class named: 'F' superclass: 'Error'!F method!isResumable ^true!F method!defaultAction self resume: 6. Transcript show: 'no'!Global initializer!Transcript show: (F signal + 1) printString!
-abbrev default_resume : Program
+abbrev pub default_resume : Program
 default_resume =
     record {
       names = (codes "value") ∷ (codes "value:") ∷ (codes "value:value:") ∷ (61 ∷ []) ∷ (codes "defaultAction") ∷ (codes "isResumable") ∷ (codes "handles:") ∷ (codes "doesNotUnderstand:") ∷ (codes "printString") ∷ (codes "resume:") ∷ (codes "show:") ∷ (codes "signal") ∷ (43 ∷ []) ∷ [];
@@ -197,7 +197,7 @@ unfolding computing
 default_resume_runs = (refl, refl, refl)
 
 -- Class named: 'F' superclass: 'Error'!F method!defaultAction ^[self return: 6] on: Error do: [:x | x messageText]!Global initializer!Transcript show: F signal!
-abbrev default_return : Program
+abbrev pub default_return : Program
 default_return =
     record {
       names = (codes "value") ∷ (codes "value:") ∷ (codes "value:value:") ∷ (61 ∷ []) ∷ (codes "defaultAction") ∷ (codes "isResumable") ∷ (codes "handles:") ∷ (codes "doesNotUnderstand:") ∷ (codes "printString") ∷ (codes "return:") ∷ (codes "messageText") ∷ (codes "on:do:") ∷ (codes "signal") ∷ (codes "show:") ∷ [];
@@ -222,7 +222,7 @@ unfolding computing
 default_return_runs = (refl, refl, refl)
 
 -- Global initializer!Transcript show: ([Warning signal + 1] on: Warning do: [:e | e resume: 5]) printString!
-abbrev wait_counts : Program
+abbrev pub wait_counts : Program
 wait_counts =
     record {
       names = (codes "value") ∷ (codes "value:") ∷ (codes "value:value:") ∷ (61 ∷ []) ∷ (codes "defaultAction") ∷ (codes "isResumable") ∷ (codes "handles:") ∷ (codes "doesNotUnderstand:") ∷ (codes "printString") ∷ (codes "signal") ∷ (43 ∷ []) ∷ (codes "resume:") ∷ (codes "on:do:") ∷ (codes "show:") ∷ [];
@@ -246,7 +246,7 @@ unfolding computing
 wait_counts_runs = (refl, refl, refl)
 
 -- Global initializer!Transcript show: ([Error signal. 1] on: Error do: [:e | [Warning signal] on: Warning do: [:w | e return: 4]. 5]) printString!
-abbrev turn_of_outer_context : Program
+abbrev pub turn_of_outer_context : Program
 turn_of_outer_context =
     record {
       names = (codes "value") ∷ (codes "value:") ∷ (codes "value:value:") ∷ (61 ∷ []) ∷ (codes "defaultAction") ∷ (codes "isResumable") ∷ (codes "handles:") ∷ (codes "doesNotUnderstand:") ∷ (codes "printString") ∷ (codes "signal") ∷ (codes "return:") ∷ (codes "on:do:") ∷ (codes "show:") ∷ [];
@@ -272,7 +272,7 @@ unfolding computing
 turn_of_outer_context_runs = (refl, refl, refl)
 
 -- Global initializer!Transcript show: (([[Error signal. 1] on: Error do: [:e | e pass. 2]] on: Error do: [:e | 3]) + 10) printString!
-abbrev handler_value_goes_to_own_entry : Program
+abbrev pub handler_value_goes_to_own_entry : Program
 handler_value_goes_to_own_entry =
     record {
       names = (codes "value") ∷ (codes "value:") ∷ (codes "value:value:") ∷ (61 ∷ []) ∷ (codes "defaultAction") ∷ (codes "isResumable") ∷ (codes "handles:") ∷ (codes "doesNotUnderstand:") ∷ (codes "printString") ∷ (codes "signal") ∷ (codes "pass") ∷ (codes "on:do:") ∷ (43 ∷ []) ∷ (codes "show:") ∷ [];
@@ -298,7 +298,7 @@ unfolding computing
 handler_value_goes_to_own_entry_runs = (refl, refl, refl)
 
 -- Global initializer!Transcript show: ([[Error signal: 'a'] on: Error do: [:e | e resignalAs: (Warning new messageText: 'w'; yourself)]] on: Warning do: [:w | w return: w messageText])!
-abbrev resignal_above : Program
+abbrev pub resignal_above : Program
 resignal_above =
     record {
       names = (codes "value") ∷ (codes "value:") ∷ (codes "value:value:") ∷ (61 ∷ []) ∷ (codes "defaultAction") ∷ (codes "isResumable") ∷ (codes "handles:") ∷ (codes "doesNotUnderstand:") ∷ (codes "printString") ∷ (codes "signal:") ∷ (codes "new") ∷ (codes "messageText:") ∷ (codes "yourself") ∷ (codes "resignalAs:") ∷ (codes "on:do:") ∷ (codes "messageText") ∷ (codes "return:") ∷ (codes "show:") ∷ [];
@@ -324,7 +324,7 @@ unfolding computing
 resignal_above_runs = (refl, refl, refl)
 
 -- Global variable: 'Gv'!Class named: 'F' superclass: 'Exception'!F method!defaultAction ^Gv signal!Global initializer!Transcript show: ([[Gv := ZeroDivide new. Gv signal] on: ZeroDivide do: [:e | e resignalAs: F new]] on: Error do: [:x | x messageText])!
-abbrev resignal_old_live : Program
+abbrev pub resignal_old_live : Program
 resignal_old_live =
     record {
       names = (codes "value") ∷ (codes "value:") ∷ (codes "value:value:") ∷ (61 ∷ []) ∷ (codes "defaultAction") ∷ (codes "isResumable") ∷ (codes "handles:") ∷ (codes "doesNotUnderstand:") ∷ (codes "printString") ∷ (codes "signal") ∷ (codes "new") ∷ (codes "resignalAs:") ∷ (codes "on:do:") ∷ (codes "messageText") ∷ (codes "show:") ∷ [];
@@ -351,7 +351,7 @@ unfolding computing
 resignal_old_live_runs = (refl, refl, refl)
 
 -- Class named: 'Q' superclass: 'Object'!Q method!handles: e Transcript show: 'q'. ^false!Global initializer!Transcript show: ([[[Error signal: 'x'. 1] on: Q new do: [:e | 2]] on: Q new do: [:e | 3]] on: Error do: [:e | 4]) printString!
-abbrev handles_two_asks : Program
+abbrev pub handles_two_asks : Program
 handles_two_asks =
     record {
       names = (codes "value") ∷ (codes "value:") ∷ (codes "value:value:") ∷ (61 ∷ []) ∷ (codes "defaultAction") ∷ (codes "isResumable") ∷ (codes "handles:") ∷ (codes "doesNotUnderstand:") ∷ (codes "printString") ∷ (codes "show:") ∷ (codes "signal:") ∷ (codes "new") ∷ (codes "on:do:") ∷ [];
@@ -380,7 +380,7 @@ unfolding computing
 handles_two_asks_runs = (refl, refl, refl)
 
 -- Class named: 'Q' superclass: 'Object'!Q method!handles: e Transcript show: 'q'. ^true!Global initializer![[Error signal] on: Error do: [:e | Transcript show: e isNested printString]] on: Q new do: [:e | 1]!
-abbrev handles_nested : Program
+abbrev pub handles_nested : Program
 handles_nested =
     record {
       names = (codes "value") ∷ (codes "value:") ∷ (codes "value:value:") ∷ (61 ∷ []) ∷ (codes "defaultAction") ∷ (codes "isResumable") ∷ (codes "handles:") ∷ (codes "doesNotUnderstand:") ∷ (codes "printString") ∷ (codes "show:") ∷ (codes "signal") ∷ (codes "isNested") ∷ (codes "on:do:") ∷ (codes "new") ∷ [];
@@ -407,7 +407,7 @@ unfolding computing
 handles_nested_runs = (refl, refl, refl)
 
 -- Global initializer!Transcript show: ([[Error signal. 1] on: Error do: [:e | e perform: #pass. 2]] on: Error do: [:e | e perform: #return: with: 3]) printString!
-abbrev perform_control : Program
+abbrev pub perform_control : Program
 perform_control =
     record {
       names = (codes "value") ∷ (codes "value:") ∷ (codes "value:value:") ∷ (61 ∷ []) ∷ (codes "defaultAction") ∷ (codes "isResumable") ∷ (codes "handles:") ∷ (codes "doesNotUnderstand:") ∷ (codes "printString") ∷ (codes "signal") ∷ (codes "pass") ∷ (codes "perform:") ∷ (codes "on:do:") ∷ (codes "return:") ∷ (codes "perform:with:") ∷ (codes "show:") ∷ [];
@@ -433,7 +433,7 @@ unfolding computing
 perform_control_runs = (refl, refl, refl)
 
 -- Global initializer!| a | a := 1. [a] value!Global initializer!| a b | a := 1. b := 2. [a + b] value!
-abbrev second_initializer : Program
+abbrev pub second_initializer : Program
 second_initializer =
     record {
       names = (codes "value") ∷ (codes "value:") ∷ (codes "value:value:") ∷ (61 ∷ []) ∷ (codes "defaultAction") ∷ (codes "isResumable") ∷ (codes "handles:") ∷ (codes "doesNotUnderstand:") ∷ (codes "printString") ∷ (43 ∷ []) ∷ [];

@@ -9,7 +9,7 @@ use Rattle.st_code.specs.Literals.{literal_string, trouble_literals}
 use Rattle.st_rules.proofs.Computing.{Reports, computing, WasDone, WasUnhandled}
 
 -- Class named: 'Q' superclass: 'Object'!Q method!blk ^[^1]!Global initializer!| b | b := Q new blk. Transcript show: ([b value] on: Error do: [:e | e messageText]). b value!
-abbrev home_gone : Program
+abbrev pub home_gone : Program
 home_gone =
     record {
       names = (codes "value") ∷ (codes "value:") ∷ (codes "value:value:") ∷ (61 ∷ []) ∷ (codes "defaultAction") ∷ (codes "isResumable") ∷ (codes "handles:") ∷ (codes "doesNotUnderstand:") ∷ (codes "printString") ∷ (codes "blk") ∷ (codes "new") ∷ (codes "messageText") ∷ (codes "on:do:") ∷ (codes "show:") ∷ [];
@@ -35,7 +35,7 @@ unfolding computing
 home_gone_runs = (refl, refl, refl)
 
 -- Global initializer!Transcript show: ([[[Error signal: 'a'] ensure: [Error signal: 'b']] ensure: [Transcript show: 'c']] on: Error do: [:e | e return: e messageText])!
-abbrev unwinding_replaced : Program
+abbrev pub unwinding_replaced : Program
 unwinding_replaced =
     record {
       names = (codes "value") ∷ (codes "value:") ∷ (codes "value:value:") ∷ (61 ∷ []) ∷ (codes "defaultAction") ∷ (codes "isResumable") ∷ (codes "handles:") ∷ (codes "doesNotUnderstand:") ∷ (codes "printString") ∷ (codes "signal:") ∷ (codes "ensure:") ∷ (codes "show:") ∷ (codes "messageText") ∷ (codes "return:") ∷ (codes "on:do:") ∷ [];
@@ -63,7 +63,7 @@ unfolding computing
 unwinding_replaced_runs = (refl, refl, refl)
 
 -- Class named: 'Q' superclass: 'Object'!Q method!m [[^1] ensure: [^2]] ensure: [Transcript show: 'x']. ^3!Global initializer!Transcript show: Q new m printString!
-abbrev return_replaced : Program
+abbrev pub return_replaced : Program
 return_replaced =
     record {
       names = (codes "value") ∷ (codes "value:") ∷ (codes "value:value:") ∷ (61 ∷ []) ∷ (codes "defaultAction") ∷ (codes "isResumable") ∷ (codes "handles:") ∷ (codes "doesNotUnderstand:") ∷ (codes "printString") ∷ (codes "ensure:") ∷ (codes "show:") ∷ (109 ∷ []) ∷ (codes "new") ∷ [];
@@ -90,7 +90,7 @@ unfolding computing
 return_replaced_runs = (refl, refl, refl)
 
 -- Global initializer!| n | n := 0. [[n := n + 1. Error signal] ensure: [n = 1 ifTrue: [Error signal: 'again']]] on: Error do: [:e | Transcript show: e messageText. n < 3 ifTrue: [e retry]]!
-abbrev retry_in_unwinding : Program
+abbrev pub retry_in_unwinding : Program
 retry_in_unwinding =
     record {
       names = (codes "value") ∷ (codes "value:") ∷ (codes "value:value:") ∷ (61 ∷ []) ∷ (codes "defaultAction") ∷ (codes "isResumable") ∷ (codes "handles:") ∷ (codes "doesNotUnderstand:") ∷ (codes "printString") ∷ (43 ∷ []) ∷ (codes "signal") ∷ (codes "signal:") ∷ (codes "ifTrue:") ∷ (codes "ensure:") ∷ (codes "messageText") ∷ (codes "show:") ∷ (60 ∷ []) ∷ (codes "retry") ∷ (codes "on:do:") ∷ [];
@@ -118,7 +118,7 @@ unfolding computing
 retry_in_unwinding_runs = (refl, refl, refl)
 
 -- Class named: 'Q' superclass: 'Object'!Q method!m [Error signal: 'a'] ensure: [^7]!Global initializer!Transcript show: Q new m printString!
-abbrev return_out_of_action : Program
+abbrev pub return_out_of_action : Program
 return_out_of_action =
     record {
       names = (codes "value") ∷ (codes "value:") ∷ (codes "value:value:") ∷ (61 ∷ []) ∷ (codes "defaultAction") ∷ (codes "isResumable") ∷ (codes "handles:") ∷ (codes "doesNotUnderstand:") ∷ (codes "printString") ∷ (codes "signal:") ∷ (codes "ensure:") ∷ (109 ∷ []) ∷ (codes "new") ∷ (codes "show:") ∷ [];
@@ -143,7 +143,7 @@ unfolding computing
 return_out_of_action_runs = (refl, refl, refl)
 
 -- Global initializer!Transcript show: ([Error signal] on: Error do: [:e | [e return: 4] ensure: [Transcript show: 'h']]) printString!
-abbrev action_in_handler : Program
+abbrev pub action_in_handler : Program
 action_in_handler =
     record {
       names = (codes "value") ∷ (codes "value:") ∷ (codes "value:value:") ∷ (61 ∷ []) ∷ (codes "defaultAction") ∷ (codes "isResumable") ∷ (codes "handles:") ∷ (codes "doesNotUnderstand:") ∷ (codes "printString") ∷ (codes "signal") ∷ (codes "return:") ∷ (codes "show:") ∷ (codes "ensure:") ∷ (codes "on:do:") ∷ [];
@@ -169,7 +169,7 @@ unfolding computing
 action_in_handler_runs = (refl, refl, refl)
 
 -- Global initializer!Transcript show: ([3] ifCurtailed: [Transcript show: 'x']) printString!
-abbrev not_curtailed : Program
+abbrev pub not_curtailed : Program
 not_curtailed =
     record {
       names = (codes "value") ∷ (codes "value:") ∷ (codes "value:value:") ∷ (61 ∷ []) ∷ (codes "defaultAction") ∷ (codes "isResumable") ∷ (codes "handles:") ∷ (codes "doesNotUnderstand:") ∷ (codes "printString") ∷ (codes "show:") ∷ (codes "ifCurtailed:") ∷ [];
@@ -193,7 +193,7 @@ unfolding computing
 not_curtailed_runs = (refl, refl, refl)
 
 -- Class named: 'Q' superclass: 'Object'!Q method!m [3] ensure: [^7]. ^1!Global initializer!Transcript show: Q new m printString!
-abbrev ensure_value_then_go : Program
+abbrev pub ensure_value_then_go : Program
 ensure_value_then_go =
     record {
       names = (codes "value") ∷ (codes "value:") ∷ (codes "value:value:") ∷ (61 ∷ []) ∷ (codes "defaultAction") ∷ (codes "isResumable") ∷ (codes "handles:") ∷ (codes "doesNotUnderstand:") ∷ (codes "printString") ∷ (codes "ensure:") ∷ (109 ∷ []) ∷ (codes "new") ∷ (codes "show:") ∷ [];
@@ -218,7 +218,7 @@ unfolding computing
 ensure_value_then_go_runs = (refl, refl, refl)
 
 -- Class named: 'Q' superclass: 'Object'!Q method!m [^3] ensure: [9]. ^1!Global initializer!Transcript show: Q new m printString!
-abbrev ensure_go_then_value : Program
+abbrev pub ensure_go_then_value : Program
 ensure_go_then_value =
     record {
       names = (codes "value") ∷ (codes "value:") ∷ (codes "value:value:") ∷ (61 ∷ []) ∷ (codes "defaultAction") ∷ (codes "isResumable") ∷ (codes "handles:") ∷ (codes "doesNotUnderstand:") ∷ (codes "printString") ∷ (codes "ensure:") ∷ (109 ∷ []) ∷ (codes "new") ∷ (codes "show:") ∷ [];
@@ -243,7 +243,7 @@ unfolding computing
 ensure_go_then_value_runs = (refl, refl, refl)
 
 -- Class named: 'Q' superclass: 'Object'!Q method!m [^3] ifCurtailed: [^4]. ^1!Global initializer!Transcript show: Q new m printString!
-abbrev curtail_go_in_block : Program
+abbrev pub curtail_go_in_block : Program
 curtail_go_in_block =
     record {
       names = (codes "value") ∷ (codes "value:") ∷ (codes "value:value:") ∷ (61 ∷ []) ∷ (codes "defaultAction") ∷ (codes "isResumable") ∷ (codes "handles:") ∷ (codes "doesNotUnderstand:") ∷ (codes "printString") ∷ (codes "ifCurtailed:") ∷ (109 ∷ []) ∷ (codes "new") ∷ (codes "show:") ∷ [];
@@ -268,7 +268,7 @@ unfolding computing
 curtail_go_in_block_runs = (refl, refl, refl)
 
 -- Global initializer!Transcript show: ([[[Error signal: 'a'] ensure: [Warning signal: 'w']] on: Warning do: [:w | Transcript show: 'W'. w resume: 1]] on: Error do: [:e | e messageText])!
-abbrev ensure_signals_inside : Program
+abbrev pub ensure_signals_inside : Program
 ensure_signals_inside =
     record {
       names = (codes "value") ∷ (codes "value:") ∷ (codes "value:value:") ∷ (61 ∷ []) ∷ (codes "defaultAction") ∷ (codes "isResumable") ∷ (codes "handles:") ∷ (codes "doesNotUnderstand:") ∷ (codes "printString") ∷ (codes "signal:") ∷ (codes "ensure:") ∷ (codes "show:") ∷ (codes "resume:") ∷ (codes "on:do:") ∷ (codes "messageText") ∷ [];
@@ -296,7 +296,7 @@ unfolding computing
 ensure_signals_inside_runs = (refl, refl, refl)
 
 -- Global initializer![[Error signal: 'a'] ensure: [Transcript show: 'x'. Error signal: 'b']] ensure: [Transcript show: 'y']!
-abbrev terminate_replaced : Program
+abbrev pub terminate_replaced : Program
 terminate_replaced =
     record {
       names = (codes "value") ∷ (codes "value:") ∷ (codes "value:value:") ∷ (61 ∷ []) ∷ (codes "defaultAction") ∷ (codes "isResumable") ∷ (codes "handles:") ∷ (codes "doesNotUnderstand:") ∷ (codes "printString") ∷ (codes "signal:") ∷ (codes "show:") ∷ (codes "ensure:") ∷ [];
@@ -322,7 +322,7 @@ unfolding computing
 terminate_replaced_runs = (refl, refl, refl)
 
 -- Global initializer!| e | e := Error new. [e signal: 'a'] ensure: [e messageText: 'b']!
-abbrev terminate_text_at_end : Program
+abbrev pub terminate_text_at_end : Program
 terminate_text_at_end =
     record {
       names = (codes "value") ∷ (codes "value:") ∷ (codes "value:value:") ∷ (61 ∷ []) ∷ (codes "defaultAction") ∷ (codes "isResumable") ∷ (codes "handles:") ∷ (codes "doesNotUnderstand:") ∷ (codes "printString") ∷ (codes "new") ∷ (codes "signal:") ∷ (codes "messageText:") ∷ (codes "ensure:") ∷ [];
@@ -346,7 +346,7 @@ unfolding computing
 terminate_text_at_end_runs = (refl, refl, refl)
 
 -- Class named: 'Q' superclass: 'Object'!Q method!m [Error signal: 'a'] ensure: [^7]!Global initializer!Transcript show: Q new m printString. Transcript show: 'on'!
-abbrev terminate_caught : Program
+abbrev pub terminate_caught : Program
 terminate_caught =
     record {
       names = (codes "value") ∷ (codes "value:") ∷ (codes "value:value:") ∷ (61 ∷ []) ∷ (codes "defaultAction") ∷ (codes "isResumable") ∷ (codes "handles:") ∷ (codes "doesNotUnderstand:") ∷ (codes "printString") ∷ (codes "signal:") ∷ (codes "ensure:") ∷ (109 ∷ []) ∷ (codes "new") ∷ (codes "show:") ∷ [];
@@ -371,7 +371,7 @@ unfolding computing
 terminate_caught_runs = (refl, refl, refl)
 
 -- Global variable: 'X'!X initializer![[^4] ensure: [Transcript show: 'e']] value. 5!Global initializer!Transcript show: X printString!
-abbrev initializer_home : Program
+abbrev pub initializer_home : Program
 initializer_home =
     record {
       names = (codes "value") ∷ (codes "value:") ∷ (codes "value:value:") ∷ (61 ∷ []) ∷ (codes "defaultAction") ∷ (codes "isResumable") ∷ (codes "handles:") ∷ (codes "doesNotUnderstand:") ∷ (codes "printString") ∷ (codes "show:") ∷ (codes "ensure:") ∷ [];
@@ -397,7 +397,7 @@ unfolding computing
 initializer_home_runs = (refl, refl, refl)
 
 -- Class named: 'Q' superclass: 'Object'!Error method!isResumable ^true!Q method!blk ^[^1]!Global initializer!| b | b := Q new blk. Transcript show: ([b value + 1] on: Error do: [:e | e resume: 5]) printString!
-abbrev dead_home_resumed : Program
+abbrev pub dead_home_resumed : Program
 dead_home_resumed =
     record {
       names = (codes "value") ∷ (codes "value:") ∷ (codes "value:value:") ∷ (61 ∷ []) ∷ (codes "defaultAction") ∷ (codes "isResumable") ∷ (codes "handles:") ∷ (codes "doesNotUnderstand:") ∷ (codes "printString") ∷ (codes "blk") ∷ (codes "new") ∷ (43 ∷ []) ∷ (codes "resume:") ∷ (codes "on:do:") ∷ (codes "show:") ∷ [];
@@ -424,7 +424,7 @@ unfolding computing
 dead_home_resumed_runs = (refl, refl, refl)
 
 -- Class named: 'Q' superclass: 'Object'!Error method!isResumable ^true!Q method!m: b b isNil ifTrue: [^[^1]]. ^b value + 10!Global initializer!| b | b := Q new m: nil. Transcript show: ([Q new m: b] on: Error do: [:e | e resume: 5]) printString!
-abbrev dead_home_recursion : Program
+abbrev pub dead_home_recursion : Program
 dead_home_recursion =
     record {
       names = (codes "value") ∷ (codes "value:") ∷ (codes "value:value:") ∷ (61 ∷ []) ∷ (codes "defaultAction") ∷ (codes "isResumable") ∷ (codes "handles:") ∷ (codes "doesNotUnderstand:") ∷ (codes "printString") ∷ (codes "isNil") ∷ (codes "ifTrue:") ∷ (43 ∷ []) ∷ (codes "m:") ∷ (codes "new") ∷ (codes "resume:") ∷ (codes "on:do:") ∷ (codes "show:") ∷ [];

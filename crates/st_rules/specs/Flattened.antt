@@ -3,7 +3,7 @@ use Rattle.std.specs.Prelude.{◌≡◌, ℕ}
 use Rattle.st_code.specs.Program.{Program}
 use Rattle.st_code.specs.Compiled.{compile_of}
 use Rattle.st_rules.specs.State.{State}
-use Rattle.st_rules.specs.Runs.{Ending, Stuck, Runs}
+use Rattle.st_rules.specs.Runs.{Ending, Runs}
 use Rattle.st_rules.specs.Machine.{Bodies}
 use Rattle.st_rules.specs.Scoped.{scoped}
 use Rattle.st_rules.specs.Flat.{FlatBody, flat, greatest_width}
@@ -28,9 +28,14 @@ pub record EndsAlike (p : Program) (n : ℕ) (e : Ending) (st : State) : Type 0 
 -- where the scoped machine ends a compilable program, the flat one ends it alike
 abbrev pub FlatFollows : Type 0
 FlatFollows =
-    (p : Program) → Compilable p → (n : ℕ) (e : Ending) (st : State) → top_iter (scoped p) p n (opened_run (scoped p) p) ≡ Ended e st →
-    (e ≡ Stuck → ⊥) → EndsAlike p n e st
+    (p : Program) → Compilable p → (n : ℕ) (e : Ending) (st : State) → top_iter (scoped p) p n (opened_run (scoped p) p) ≡ Ended e st → EndsAlike p n e st
 
 -- and so where the rules end it, the flat machine ends it alike
 abbrev pub FlatFollowsTheRules : Type 0
-FlatFollowsTheRules = (p : Program) → Compilable p → (e : Ending) (st : State) → Runs p e st → (e ≡ Stuck → ⊥) → (n : ℕ) × EndsAlike p n e st
+FlatFollowsTheRules = (p : Program) → Compilable p → (e : Ending) (st : State) → Runs p e st → (n : ℕ) × EndsAlike p n e st
+
+-- and where the flat machine ends it, the rules do
+abbrev pub RulesFollowTheFlat : Type 0
+RulesFollowTheFlat =
+    (p : Program) → Compilable p → (n : ℕ) (e : Ending) (st : State) → top_iter (flat_of p) p n (opened_run (flat_of p) p) ≡ Ended e st →
+    (st' : State) × Runs p e st' × Alike st' st

@@ -13,6 +13,7 @@ pub mod Scoped
 pub mod Turns
 pub mod Followed
 pub mod SomeRun
+pub mod NeverStuck
 pub mod StepLimits
 pub mod Flat
 pub mod Compilable
