@@ -8,3 +8,4 @@ pub mod Numbers
 pub mod Walks
 pub mod Entries
 pub mod Lookups
+pub mod FindingAlike

@@ -4,6 +4,7 @@
 mod class;
 mod declarations;
 mod image;
+pub mod law;
 mod methods;
 mod spelled;
 mod table;

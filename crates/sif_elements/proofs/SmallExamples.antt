@@ -8,7 +8,7 @@ use Rattle.st_tree.specs.declared.tree.Operand.{Operand}
 use Rattle.st_tree.specs.declared.tree.Statement.{Statement}
 use Rattle.st_tree.specs.Trees.{name, variable, integer, constant, message, operand, expr, body, block, paren, stated}
 use Rattle.std.specs.Prelude.{pos}
-use Rattle.sif_elements.specs.Small.{Weights, parts, moves, body_weight}
+use Rattle.st_tree.specs.Small.{Weights, parts, moves, body_weight}
 use Rattle.sif_elements.proofs.Weighing.{message_weighs, operand_weighs, expr_weighs, stated_weighs, variable_weighs, constant_weighs, block_weighs, paren_weighs, body_weighs, str_size, integer_size}
 
 -- `Transcript show: 'hi'; cr`

@@ -5,7 +5,7 @@ use Rattle.std.proofs.lemmas.List.Sums.{sum_by-cons}
 use Rattle.st_tree.specs.declared.units.Annotation.{Annotation}
 use Rattle.st_tree.specs.declared.units.Unit.{Unit}
 use Rattle.st_tree.specs.Numbers.{elements_of, elements_in}
-use Rattle.sif_elements.specs.Small.{IsSmall, annotation_size, unit_size}
+use Rattle.st_tree.specs.Small.{IsSmall, annotation_size, unit_size}
 use Rattle.sif_elements.proofs.Counts.{elements_of_kind-most}
 
 annotations-size : (all : List Annotation) → length all ≤ sum_by annotation_size all

@@ -7,7 +7,7 @@ use Rattle.st_tree.specs.declared.units.Unit.{Unit}
 use Rattle.sif_elements.specs.declared.progress.Progress.{Progress}
 use Rattle.sif_elements.specs.Reading as r
 use Rattle.sif_elements.specs.Reading.{Answers, Read, Reads, is_whole}
-use Rattle.sif_elements.specs.Small.{IsSmall}
+use Rattle.st_tree.specs.Small.{IsSmall}
 use Rattle.sif_elements.proofs.Sized.{IsSized, sized_at_start, sized_more, small_between}
 use Rattle.sif_elements.proofs.TextBytes.{doubled-length, parts-joined}
 

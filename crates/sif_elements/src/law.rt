@@ -3,7 +3,7 @@ ghost use Rattle.std.specs.Prelude.{◌≡◌, ◌↔◌, ℕ, List, true};
 ghost use Rattle.st_base.specs.declared.faults.Reason.{Reason};
 ghost use Rattle.st_tree.specs.declared.units.Unit.{Unit};
 ghost use Rattle.sif_elements.specs.Reading.{Reads, Refuses, Read, Refuse};
-ghost use Rattle.sif_elements.specs.Small.{IsSmall};
+ghost use Rattle.st_tree.specs.Small.{IsSmall};
 ghost use Rattle.sif_elements.specs.Steps.{reading};
 
 /// Each file has exactly one reading: its units, or one refusal at one place.

@@ -78,7 +78,7 @@ pub record Defined : Type 0 where
   pub bodies : List Body
   pub objects : List Object
 
-abbrev nothing_defined : Defined
+abbrev pub nothing_defined : Defined
 nothing_defined = record { methods = []; initializers = []; bodies = []; objects = [] }
 
 abbrev counts_of : Defined → Counts
@@ -112,11 +112,11 @@ with_initializer x class side self target b d =
     with_body x class side InInitializer [] b d [] (record { code = length d.bodies; self = self; target = target } ∷ [])
 
 -- the initializer of a class runs as the class; any other has self nil, and its value is a variable's
-abbrev initialized : Names → Option ℕ → Text → NamedBody → Defined → Defined
+abbrev pub initialized : Names → Option ℕ → Text → NamedBody → Defined → Defined
 initialized x (Some class) target b d = with_initializer x class OfClass (Class class) None b d
 initialized x None target b d = with_initializer x undefined_object_class OfInstance Nil (place_in 0 x.shared (GlobalName target)) b d
 
-abbrev defined_unit : Names → NamedUnit → Defined → Defined
+abbrev pub defined_unit : Names → NamedUnit → Defined → Defined
 defined_unit x (InitializerUnit target b) d = initialized x (class_in 0 x.classes target) target b d
 defined_unit x (PoolInitializerUnit pool name b) d = with_initializer x undefined_object_class OfInstance Nil (place_in 0 x.shared (PoolName pool name)) b d
 defined_unit x (ProgramUnit b) d = with_initializer x undefined_object_class OfInstance Nil None b d
@@ -124,7 +124,7 @@ defined_unit x (MethodUnit class m) d = with_method x (or_zero (class_in 0 x.cla
 defined_unit x (ClassMethodUnit class m) d = with_method x (or_zero (class_in 0 x.classes class)) OfClass m d
 defined_unit x u d = d
 
-abbrev defined_units : Names → List NamedUnit → Defined → Defined
+abbrev pub defined_units : Names → List NamedUnit → Defined → Defined
 defined_units x [] d = d
 defined_units x (u ∷ units) d = defined_units x units (defined_unit x u d)
 
