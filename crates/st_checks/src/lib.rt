@@ -12,5 +12,7 @@ mod line;
 mod lists;
 mod rules;
 mod table;
+#[cfg(test)]
+mod tests;
 
 pub use answer::{CheckAnswer, Checked, check};
