@@ -34,3 +34,7 @@ pub mod CompilableRuns
 pub mod Targets
 pub mod Aims
 pub mod NeverStuck
+pub mod SoundTrees
+pub mod SoundNames
+pub mod SoundMade
+pub mod SoundProgram

@@ -3,6 +3,9 @@ use Rattle.std.specs.Prelude.{◌≡◌, ℕ, zero, suc, ◌<◌, Bool, true, fa
 use Rattle.object_heap.specs.declared.value.Value.{Value}
 use Rattle.object_heap.specs.declared.value.Value.TheVariants.{Meta}
 use Rattle.st_code.specs.Program.{Program, Place, Scoped, Slot, ClassSlot, Shared, Kind, InMethod, InBlock, InInitializer, MethodRow, Initializer, Body as BodyRow, body_at}
+use Rattle.st_code.specs.Texts.{Text}
+use Rattle.st_code.specs.Named.{NamedUnit}
+use Rattle.st_code.specs.Definitions.{RunLimits, program_of}
 use Rattle.st_code.specs.Code.{Instr, PushConstant, PushVariable, Store, MakeBlock, code_body}
 use Rattle.st_code.specs.Compiled.{constant_value, constant_of, is_captured}
 
@@ -107,3 +110,7 @@ is_compilable p = bodies_sound p 0 p.bodies && methods_sound p p.methods && init
 -- what is computed is so
 abbrev pub Computed : Type 0
 Computed = (p : Program) → is_compilable p ≡ true → Compilable p
+
+-- each program that the units of a file are is so, whatever they are
+abbrev pub ProgramsAreCompilable : Type 0
+ProgramsAreCompilable = (names : List Text) (units : List NamedUnit) (limits : RunLimits) → Compilable (program_of names units limits)
