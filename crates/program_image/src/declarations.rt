@@ -193,6 +193,14 @@ impl Declarations {
         self.classes.as_slice()[class as usize].superclass
     }
 
+    /// A class by its number.
+    pub(crate) fn class(&self, class: u32) -> &Class
+        requires { class < length self.now.classes }
+        ensures { seen_class result.now ≡ class_names_at self.now.classes class }
+    {
+        &self.classes.as_slice()[class as usize]
+    }
+
     /// The name of a class.
     pub(crate) fn class_name(&self, class: u32) -> &[u8]
         requires { class < length self.now.classes }

@@ -3,7 +3,7 @@ ghost use Rattle.std.specs.Prelude.{◌≡◌, ◌<◌, [], ◌∷◌, length, m
 ghost use Rattle.std.specs.Option.{option_map};
 ghost use Rattle.st_code.specs.Program.{OfInstance, class_at};
 ghost use Rattle.st_code.specs.BuiltIns.{object_class};
-ghost use Rattle.st_code.specs.Resolved.{class_in};
+ghost use Rattle.st_code.specs.Resolved.{class_in, class_names_at};
 ghost use Rattle.st_code.specs.Lookup.{level, superclasses, inherits, lookup};
 ghost use Rattle.program_image.specs.Classes.{seen_class, seen_variable};
 ghost use Rattle.program_image.specs.Images.{image_names, image_program, on_side, image_found_at, image_found_in, image_lookup, as_row};
@@ -107,6 +107,14 @@ impl Image {
         ensures there { IfSome result (λ class. class < length (image_names self.now).classes) }
     {
         self.declarations.class_number(name)
+    }
+
+    /// A class by its number.
+    pub fn class(&self, class: u32) -> &Class
+        requires { class < length (image_names self.now).classes }
+        ensures { seen_class result.now ≡ class_names_at (image_names self.now).classes class }
+    {
+        self.declarations.class(class)
     }
 
     /// The name of a class.
