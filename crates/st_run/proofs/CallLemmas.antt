@@ -11,11 +11,12 @@ use Rattle.sif_elements.specs.Reading.{Read, Refuse}
 use Rattle.sif_elements.specs.Steps.{reading}
 use Rattle.st_tree.specs.declared.units.Unit as unit
 use Rattle.st_answers.specs.Shows.{Program, Shows, program_of}
+use Rattle.st_checks.specs.StaticRules.{Break, broken, first_break}
 use Rattle.st_words.specs.declared.command.Command.{Command}
 use Rattle.st_words.specs.declared.command.Task.{Task}
 use Rattle.st_words.specs.declared.command.Task.TheVariants as task
 use Rattle.st_run.specs.Commands as Commands
-use Rattle.st_run.specs.Commands.{Outcome, refused, ForBytes, Reads, IsValid, IsValidFor, CanRun, does, runs, of_units, of_answer, read_fault_line, memory_line}
+use Rattle.st_run.specs.Commands.{Outcome, refused, ForBytes, Reads, IsValid, IsValidFor, CanRun, does, runs, of_rules, of_units, of_answer, read_fault_line, memory_line}
 use Rattle.st_run.specs.Headline.{IsDone, IsReported, StopsIn, in_output, in_report, in_read_fault, in_want, Finishes, finished, stops_in_output, stops_in_report, stops_in_want, wants, Calls, finishes, lacks, fails, stops_in_fault}
 
 -- what holds of the outcome holds for the command
@@ -91,6 +92,13 @@ module _ (outcome : Outcome) (W T : Type 0) (out out' report report' : Option (L
 -- the same outcome
 pub of_same : (outcome other : Outcome) (W T : Type 0) (out out' report report' : Option (List ℕ)) (status : ℕ) → other ≡ outcome → Finishes other W T out out' report report' status → Finishes outcome W T out out' report report' status
 of_same outcome other W T out out' report report' status same f = rw (← same) f
+
+-- a program that meets the static rules, and one that breaks them
+pub by_rules : (t : Task) (us vs : List unit.Unit) (W T : Type 0) (out out' report report' : Option (List ℕ)) (status : ℕ) → vs ≡ us → first_break us ≡ None → Finishes (of_units t vs) W T out out' report report' status → Finishes (of_rules t us (first_break us)) W T out out' report report' status
+by_rules t us vs W T out out' report report' status same meets f = rw meets (rw (← same) f)
+
+pub by_break : (t : Task) (us : List unit.Unit) (place : Place) (why : Reason) (W T : Type 0) (out report report' : Option (List ℕ)) (status : ℕ) → first_break us ≡ Some (broken place why) → Finishes (refused place why) ⊥ T out out report report' status → Finishes (of_rules t us (first_break us)) W T out out report report' status
+by_break t us place why W T out report report' status breaks f = rw breaks (any_write (refused place why) W T out out report report' status f)
 
 pub append_known-nil : (known : Option (List ℕ)) → append_known known [] ≡ known
 append_known-nil None = refl
@@ -201,7 +209,7 @@ valid_units task.Export us can = refl
 valid_units task.Gen us can = refl
 
 valid_answer : (t : Task) (bytes : List ℕ) → IsValidFor t bytes → (of_answer t (reading bytes)).status ≡ 0
-valid_answer t bytes v = rw v.reads (valid_units t v.units v.runs)
+valid_answer t bytes v = rw (v.reads, v.meets) (valid_units t v.units v.runs)
 
 pub valid_of : (command : Option Command) (left : Option (List ℕ)) (out out' report report' : Option (List ℕ)) (status : ℕ) → ForBytes command left (λ outcome. IsDone outcome out out' report report' status) → Reads command → IfSome left (λ bytes. IsValid command bytes → status ≡ 0)
 valid_of None left out out' report report' status done reads = absurd reads
@@ -211,7 +219,7 @@ valid_of (Some c) (Some bytes) out out' report report' status done reads = λ va
 -- ---- the ways in which a call comes to its end
 
 module _ (c : Command) (left left' : Option (List ℕ)) (R W T : Type 0) (out out' report report' : Option (List ℕ)) (status : ℕ) where
-  read_outcome : (left : Option (List ℕ)) (us : List unit.Unit) → IfSome left (λ file. reading file ≡ Read us) → IfSome left (λ file. of_answer c.task (reading file) ≡ of_units c.task us)
+  read_outcome : (left : Option (List ℕ)) (us : List unit.Unit) → IfSome left (λ file. reading file ≡ Read us) → IfSome left (λ file. of_answer c.task (reading file) ≡ of_rules c.task us (first_break us))
   read_outcome None us is = tt
   read_outcome (Some file) us is = ap (of_answer c.task) is
 
@@ -219,8 +227,8 @@ module _ (c : Command) (left left' : Option (List ℕ)) (R W T : Type 0) (out ou
   refused_outcome None place why is = tt
   refused_outcome (Some file) place why is = ap (of_answer c.task) is
 
-  pub read_calls : (us : List unit.Unit) → IfSome left (λ file. reading file ≡ Read us) → IfSome left' (λ bytes. bytes ≡ []) → Finishes (of_units c.task us) W T out out' report report' status → Calls (Some c) left left' R W T out out' report report' status
-  read_calls us is end f = finishes (of_units c.task us) f (read_outcome left us is) (λ zero. end)
+  pub read_calls : (us : List unit.Unit) → IfSome left (λ file. reading file ≡ Read us) → IfSome left' (λ bytes. bytes ≡ []) → Finishes (of_rules c.task us (first_break us)) W T out out' report report' status → Calls (Some c) left left' R W T out out' report report' status
+  read_calls us is end f = finishes (of_rules c.task us (first_break us)) f (read_outcome left us is) (λ zero. end)
 
   pub refused_calls : (place : Place) (why : Reason) → IfSome left (λ file. reading file ≡ Refuse place.element place.byte why) → Finishes (refused place why) ⊥ T out out report report' status → Calls (Some c) left left' R W T out out report report' status
   refused_calls place why is f = finishes (refused place why) (any_write (refused place why) W T out out report report' status f) (refused_outcome left place why is) (λ zero. absurd (not_0 (refused place why) ⊥ T out out report report' status (λ one. cc) f zero))

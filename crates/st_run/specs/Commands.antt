@@ -6,6 +6,7 @@ use Rattle.st_base.specs.declared.faults.Reason.TheVariants.{MissingVersion, Mis
 use Rattle.st_tree.specs.declared.units.Unit as unit
 use Rattle.sif_elements.specs.Reading.{Answer, Read, Refuse}
 use Rattle.sif_elements.specs.Steps.{reading}
+use Rattle.st_checks.specs.StaticRules.{Break, first_break, MeetsRules}
 use Rattle.st_words.specs.CommandLine as words
 use Rattle.st_words.specs.declared.command.Task.{Task}
 use Rattle.st_words.specs.declared.command.Task.TheVariants as task
@@ -102,10 +103,15 @@ of_units task.List us = done (listing us)
 of_units task.Export us = done (export_text us)
 of_units task.Gen us = done []
 
--- the file is read, and refused at its first faulty element
+-- a program is refused at the first break of the static rules
+abbrev pub of_rules : Task → List unit.Unit → Option Break → Outcome
+of_rules t us None = of_units t us
+of_rules t us (Some b) = refused b.place b.reason
+
+-- the file is read, and refused at its first faulty element; then the static rules are tried
 abbrev pub of_answer : Task → Answer → Outcome
 of_answer t (Refuse element byte why) = refused (place_at element byte) why
-of_answer t (Read us) = of_units t us
+of_answer t (Read us) = of_rules t us (first_break us)
 
 -- what the program does for a command, or for words that are none, and an input
 abbrev pub does : Option Command → List ℕ → Outcome
@@ -131,6 +137,7 @@ CanRun t us = Unit {0}
 pub record IsValidFor (t : Task) (bytes : List ℕ) : Type 0 where
   pub units : List unit.Unit
   pub reads : reading bytes ≡ Read units
+  pub meets : MeetsRules units
   pub runs : CanRun t units
 
 abbrev pub IsValid : Option Command → List ℕ → Type 0

@@ -4,13 +4,15 @@ ghost use Rattle.std.specs.Io.KnownBytes.{append_known};
 ghost use Rattle.st_base.specs.Streams.{Rose, GainsPrefix};
 ghost use Rattle.st_tree.specs.Numbers.{elements_in};
 ghost use Rattle.sif_export.specs.ExportText.{export_text};
-ghost use Rattle.st_run.specs.Commands.{Outcome, usage_line, done, refused, of_units, does};
+ghost use Rattle.st_checks.specs.StaticRules.{first_break};
+ghost use Rattle.st_run.specs.Commands.{Outcome, usage_line, done, refused, of_rules, of_units, does};
 ghost use Rattle.st_run.specs.Headline.{Finishes, IsReported};
 
 use crate::report::{OUT_OF_MEMORY, USAGE, refusal};
 use crate::tasks::{Written, task_output};
 use sif_export::export;
 use st_base::{Place, Reason, Sink, put_all};
+use st_checks::{CheckAnswer, check};
 use st_tree::units::Definition;
 use st_words::Task;
 use std::alloc::Global;
@@ -71,8 +73,8 @@ fn write_text<K: Sink>(out: &mut K, definition: &Definition) -> u8
     }
 }
 
-/// Does a task with a program that was read.
-pub(crate) fn perform<K: Sink, E: Sink>(
+/// Does a task with a program that meets the static rules.
+fn perform<K: Sink, E: Sink>(
     alloc: Global,
     task: Task,
     definition: &Definition,
@@ -89,5 +91,23 @@ pub(crate) fn perform<K: Sink, E: Sink>(
             refuse(alloc, Place { element, byte: 0 }, Reason::Unbuilt, report)
         }
         Err(_) => report_want_of_memory(report),
+    }
+}
+
+/// Does a task with a program that was read, or reports its first break of the static rules.
+pub(crate) fn judge<K: Sink, E: Sink>(
+    alloc: Global,
+    task: Task,
+    definition: Definition,
+    out: &mut K,
+    report: &mut E,
+) -> u8
+    requires { elements_in definition.units < 2 ^ 32 - 1 }
+    ensures { Finishes (of_rules task definition.units (first_break definition.units)) (Rose (K.faults out.old) (K.faults out.new)) (Rose (E.faults report.old) (E.faults report.new)) (K.written out.old) (K.written out.new) (E.written report.old) (E.written report.new) result }
+{
+    match check(alloc, definition) {
+        CheckAnswer::Checked(checked) => perform(alloc, task, checked.definition(), out, report),
+        CheckAnswer::Refused(place, reason) => refuse(alloc, place, reason, report),
+        CheckAnswer::OutOfMemory => report_want_of_memory(report),
     }
 }

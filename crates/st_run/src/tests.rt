@@ -187,6 +187,14 @@ fn bodies_are_shown_or_refused(rt: HostRuntime) -> Result<(), Fail> {
             wanted: refused(b"stx: refused element 3 byte 0 Unbuilt\n"),
         },
         Row {
+            body: b"Transcript show: zork!",
+            wanted: refused(b"stx: refused element 3 byte 17 UndeclaredName\n"),
+        },
+        Row {
+            body: b"Transcript show: zork!Global initializer!3 +!",
+            wanted: refused(b"stx: refused element 5 byte 3 Syntax\n"),
+        },
+        Row {
             body: b"3 + 4!Global initializer!3 +!",
             wanted: refused(b"stx: refused element 5 byte 3 Syntax\n"),
         },

@@ -5,7 +5,7 @@ ghost use Rattle.sif_elements.specs.Answered.{LeavesOpen};
 ghost use Rattle.st_run.specs.Commands.{command_of, ForBytes, Reads, IsValid, read_fault_line, memory_line};
 ghost use Rattle.st_run.specs.Headline.{Calls, IsDone, IsReported, StopsIn};
 
-use crate::finish::{perform, refuse, report_usage, report_want_of_memory, tell};
+use crate::finish::{judge, refuse, report_usage, report_want_of_memory, tell};
 use crate::report::READ_FAULT;
 use crate::tasks::command_of;
 use sif_elements::reading::{ReadAnswer, read_definition};
@@ -25,7 +25,7 @@ fn obey<S: Source, K: Sink, E: Sink>(
         (K.written out.old) (K.written out.new) (E.written report.old) (E.written report.new) result }
 {
     match read_definition(alloc, source) {
-        ReadAnswer::Read(definition) => perform(alloc, command.task, &definition, out, report),
+        ReadAnswer::Read(definition) => judge(alloc, command.task, definition, out, report),
         ReadAnswer::Refused(place, reason) => refuse(alloc, place, reason, report),
         ReadAnswer::ReadFault => tell(report, READ_FAULT, 8),
         ReadAnswer::OutOfMemory => report_want_of_memory(report),
