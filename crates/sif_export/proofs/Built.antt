@@ -10,7 +10,7 @@ use Rattle.st_tree.specs.declared.tree.Expr.{Expr}
 use Rattle.st_tree.specs.declared.tree.Message.{Message}
 use Rattle.st_tree.specs.declared.tree.Operand.{Operand}
 use Rattle.st_tree.specs.declared.tree.Primary.TheOpen.{Primary-F, Statement-F}
-use Rattle.st_tree.specs.declared.tree.Primary.TheFolds.{fold-Primary, fold-Statement, fold-Block, fold-Expr, fold-Message, fold-Operand, fold-roll-Primary, fold-roll-Statement, fold-roll-Block, fold-roll-Body, fold-roll-Expr, fold-roll-Message, fold-roll-Operand}
+use Rattle.st_tree.specs.declared.tree.Primary.TheFolds.{fold-Primary, fold-Statement, fold-Expr, fold-Message, fold-Operand, fold-roll-Primary, fold-roll-Statement, fold-roll-Block, fold-roll-Body, fold-roll-Expr, fold-roll-Message, fold-roll-Operand}
 use Rattle.st_tree.specs.declared.tree.Primary.TheViews.{out-roll-Body, rolls-Value, rolls-Return}
 use Rattle.st_tree.specs.declared.tree.Primary.TheVariants as primary
 use Rattle.st_tree.specs.declared.tree.Primary.TheVariants.{rolls-Variable, rolls-SelfValue, rolls-SuperValue, rolls-Literal, rolls-Block, rolls-Paren}
@@ -77,9 +77,6 @@ bare_e = fold-Expr Primary Statement Block Body Expr Message Operand bare_primar
 
 unfoldable pub bare_s : Statement → Statement
 bare_s = fold-Statement Primary Statement Block Body Expr Message Operand bare_primary bare_statement bare_block bare_body bare_expr bare_message bare_operand
-
-unfoldable pub bare_k : Block → Block
-bare_k = fold-Block Primary Statement Block Body Expr Message Operand bare_primary bare_statement bare_block bare_body bare_expr bare_message bare_operand
 
 pub bare-variable : (n : Name) → bare_p (variable n) ≡ variable (bare_name n)
 unfolding bare_p

@@ -1,19 +1,17 @@
 -- A small program's text, computed.
-use Rattle.std.proofs.Common.{◌≡◌, ℕ, pos, List, [], ◌∷◌, ◌++◌, map, codes, refl, ap, sym, ◌∙◌, true, false}
+use Rattle.std.proofs.Common.{◌≡◌, ℕ, pos, List, [], ◌∷◌, codes, ap, sym, ◌∙◌, false}
 use Rattle.std.specs.Fmt.{digits}
 use Rattle.sif_chunks.specs.Writing.{all_closed}
-use Rattle.st_tree.specs.declared.tree.Name.{Name}
 use Rattle.st_tree.specs.declared.tree.Literal.TheVariants as literal
 use Rattle.st_tree.specs.declared.tree.Body.{Body}
 use Rattle.st_tree.specs.declared.tree.Expr.{Expr}
 use Rattle.st_tree.specs.declared.tree.Operand.{Operand}
 use Rattle.st_tree.specs.declared.units.UnitKind.TheVariants as kinds
-use Rattle.st_tree.specs.declared.units.Unit as declared
 use Rattle.st_tree.specs.Numbers.{unit}
 use Rattle.st_tree.specs.Trees.{name, variable, integer, constant, message, operand, expr, body, paren, stated}
-use Rattle.sif_export.specs.Words.{Word, Mark, Named, Key, Operator, Number, Str, Joined, laid}
+use Rattle.sif_export.specs.Words.{Mark, Named, Key, Operator, Number, Str, Joined, laid}
 use Rattle.sif_export.specs.declared.sign.Sign.TheVariants as sign
-use Rattle.sif_export.specs.TreeWords.{Words, top_words, expr_words}
+use Rattle.sif_export.specs.TreeWords.{top_words, expr_words}
 use Rattle.sif_export.specs.ExportText.{string_text, pair_text, body_text, export_text}
 use Rattle.sif_export.proofs.Steps.{literal_in, literal_integer, literal_str, variable_in, body_text-some}
 use Rattle.sif_export.proofs.Built.{words-message, words-operand, words-expr, words-paren, words-value}

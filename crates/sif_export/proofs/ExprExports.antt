@@ -98,9 +98,6 @@ temps_some : (bar : Sign) → IsBar bar → (n : Name) (ns : List Name) → (ss 
 temps_some bar inner_bar n ns ss r (then_is (placed at) (then_is (some_names ms d same) (placed end))) = some_temps ms (g.some d) same
 temps_some bar top_bar n ns ss r (then_is (placed at) (then_is (some_names ms d same) (placed end))) = some_temps ms (g.some d) same
 
-bar_moves : (bar : Sign) → IsBar bar → (b : List Sym) (end : ℕ) → moves (Bar end ∷ b) ≡ moves b
-bar_moves bar x b end = refl
-
 bar_word : (bar : Sign) → IsBar bar → {end : ℕ} {b : List Sym} → AllFormed b → Export (Bar end ∷ b) b (Mark bar ∷ []) (Is (Mark bar))
 bar_word bar inner_bar f = exports_word (Mark sign.Bar) f tt refl
 bar_word bar top_bar f = exports_word (Mark sign.BarLine) f tt refl

@@ -41,7 +41,7 @@ depth-shifted : (d : ℕ) (a : List Sym) → depth d a ≡ shifted d (moves a)
 depth-shifted d [] = refl
 depth-shifted d (s ∷ a) = ap (λ e. depth e a) (deeper-shifted d s) ∙ depth-shifted (shifted d (move s)) a ∙ sym (shifted-append d (move s) (moves a))
 
-moves-append : (a b : List Sym) → moves (a ++ b) ≡ moves a ++ moves b
+pub moves-append : (a b : List Sym) → moves (a ++ b) ≡ moves a ++ moves b
 moves-append [] b = refl
 moves-append (s ∷ a) b = ap (λ ms. move s ++ ms) (moves-append a b) ∙ sym (append_assoc (move s) (moves a) (moves b))
 

@@ -1,5 +1,5 @@
 -- What was read of a file is readable.
-use Rattle.std.proofs.Common.{◌≡◌, ◌+◌, ◌≤◌, ℕ, Bool, true, false, List, [], ◌∷◌, ◌++◌, length, refl, ap, sym, ◌∙◌, subst, append-nil, append_assoc}
+use Rattle.std.proofs.Common.{◌≡◌, ℕ, Bool, List, [], ◌∷◌, ◌++◌, refl, ap, sym, ◌∙◌, subst, append-nil, append_assoc}
 use Rattle.st_base.specs.declared.faults.Reason.{Reason}
 use Rattle.st_tree.specs.declared.headers.Target.{Target}
 use Rattle.st_tree.specs.declared.units.UnitKind.{UnitKind}

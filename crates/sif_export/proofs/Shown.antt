@@ -32,7 +32,8 @@ pub record Shows (front bytes : List ℕ) (tokens : List Seen) : Type 0 where
 pub shows_end : (front : List ℕ) → Shows front [] []
 shows_end front = record { whole = refl; as_seen = refl }
 
-text_seam : (front t b : List ℕ) → take (length front + length t - length front) (drop (length front) (front ++ (t ++ b))) ≡ t
+-- bytes in their place
+pub text_seam : (front t b : List ℕ) → take (length front + length t - length front) (drop (length front) (front ++ (t ++ b))) ≡ t
 text_seam front t b =
     let size : length front + length t - length front ≡ length t = omega arith in
     ap (take (length front + length t - length front)) (drop_at front (t ++ b) (length front) refl) ∙ ap (λ n. take n (t ++ b)) size ∙ take-append_seam t b
@@ -48,12 +49,9 @@ shows_token k t front b ps some is rest =
           ap (λ l. map (seen (front ++ (t ++ b))) l.tokens) step
           ∙ ap (λ n. seen (front ++ (t ++ b)) (record { kind = k; start = length front; end = length front + length t }) ∷ map (seen (front ++ (t ++ b))) (lexed_at 0 n b).tokens) (sym at)
           ∙ ap (λ xs. seen (front ++ (t ++ b)) (record { kind = k; start = length front; end = length front + length t }) ∷ map (seen xs) (lexed_at 0 (length (front ++ t)) b).tokens) (sym (append_assoc front t b))
-          ∙ ap (λ xs. record { kind = k; text = xs; at = length front } ∷ map (seen ((front ++ t) ++ b)) (lexed_at 0 (length (front ++ t)) b).tokens) (text_seam' front t b)
+          ∙ ap (λ xs. record { kind = k; text = xs; at = length front } ∷ map (seen ((front ++ t) ++ b)) (lexed_at 0 (length (front ++ t)) b).tokens) (text_seam front t b)
           ∙ ap (λ xs. record { kind = k; text = t; at = length front } ∷ xs) rest.as_seen;
     }
-  where
-    text_seam' : (front t b : List ℕ) → take (length front + length t - length front) (drop (length front) (front ++ (t ++ b))) ≡ t
-    text_seam' front t b = text_seam front t b
 
 -- bytes without a token, and then what follows
 shows_gap : (t front b : List ℕ) (ps : List Seen) → lexed_at 0 (length front) (t ++ b) ≡ lexed_at 0 (length front + length t) b → Shows (front ++ t) b ps → Shows front (t ++ b) ps

@@ -2,7 +2,7 @@
 use Rattle.std.proofs.Common.{◌≡◌, ◌+◌, ◌-◌, ℕ, ℤ, pos, negsuc, Bool, true, false, if◌then◌else◌, List, [], ◌∷◌, ◌++◌, take, drop, length, map, codes, Option, refl, ap, sym, ◌∙◌, subst, arith, append_assoc, length-append, inl, inr}
 use Rattle.std.specs.Str.{bytes_eq}
 use Rattle.std.proofs.lemmas.Bool.Decides.{eqb_tells}
-use Rattle.std.proofs.lemmas.List.{drop_at, map-append}
+use Rattle.std.proofs.lemmas.List.{map-append}
 use Rattle.std.proofs.Math.Seq.{take-append_seam}
 use Rattle.st_base.specs.declared.tokens.Token.{Token}
 use Rattle.st_base.specs.declared.tokens.TokenKind.{TokenKind}
@@ -18,10 +18,11 @@ use Rattle.sif_export.specs.Words as word
 use Rattle.sif_export.specs.Words.{Word, Mark, Sign, quotes_doubled, quoted, is_bare_symbol}
 use Rattle.sif_export.specs.declared.sign.Sign.TheVariants as sign
 use Rattle.sif_export.specs.TreeWords.{Words}
-use Rattle.sif_export.proofs.Shown.{Seen, sym_seen}
+use Rattle.sif_export.proofs.Opened.{moves-append}
+use Rattle.sif_export.proofs.Shown.{text_seam, Seen, sym_seen}
 use Rattle.sif_export.proofs.Lexing.{tokens_of, number_tokens, symbol_token, Tokens, kind_of_sign}
 use Rattle.sif_export.proofs.Lexing as lexing
-use Rattle.sif_export.proofs.Exports.{syms_of, number_syms, sign_sym, Toks, no_words, next_word, Formed, AllFormed, a_character, a_string, a_symbol, move, moves, word_move, word_moves}
+use Rattle.sif_export.proofs.Exports.{syms_of, number_syms, sign_sym, Toks, no_words, next_word, Formed, AllFormed, a_character, a_string, a_symbol, moves, word_move, word_moves}
 
 -- ---- the tokens of any text
 
@@ -54,11 +55,6 @@ formed kind.Assign t after at f = tt
 formed kind.Caret t after at f = tt
 formed kind.Period t after at f = tt
 formed kind.Semicolon t after at f = tt
-
-text_seam : (front t b : List ℕ) → take (length front + length t - length front) (drop (length front) (front ++ (t ++ b))) ≡ t
-text_seam front t b =
-    let size : length front + length t - length front ≡ length t = omega arith in
-    ap (take (length front + length t - length front)) (drop_at front (t ++ b) (length front) refl) ∙ ap (λ n. take n (t ++ b)) size ∙ take-append_seam t b
 
 all_formed : {at : ℕ} {bytes : List ℕ} {tokens : List Token} {fault : Option LexFault} → LexesFrom at bytes tokens fault → (source front : List ℕ) → source ≡ front ++ bytes → length front ≡ at → AllFormed (map (sym_of source) tokens)
 all_formed ended source front e len = tt
@@ -174,10 +170,6 @@ syms_moves (word.Char c) at = refl
 syms_moves (word.Str t) at = refl
 syms_moves (word.Symbol t) at = refl
 syms_moves (word.Remark t) at = refl
-
-moves-append : (a b : List Sym) → moves (a ++ b) ≡ moves a ++ moves b
-moves-append [] b = refl
-moves-append (s ∷ a) b = ap (λ ms. move s ++ ms) (moves-append a b) ∙ sym (append_assoc (move s) (moves a) (moves b))
 
 -- the tokens of words open and close what these do
 pub toks_moves : {ws : Words} {ss r : List Sym} → Toks ws ss r → moves ss ≡ word_moves ws ++ moves r

@@ -1,9 +1,9 @@
 // The elements of a file: the text of each, and its end.
-ghost use Rattle.std.specs.Prelude.{◌≡◌, ◌++◌, ◌∷◌, [], ◌||◌, map, codes};
+ghost use Rattle.std.specs.Prelude.{◌≡◌, ◌∷◌, [], map};
 ghost use Rattle.st_base.specs.Streams.{HasCause};
 ghost use Rattle.sif_chunks.specs.Writing.{closed};
-ghost use Rattle.sif_export.specs.Words.{Word, Named, Key, Str, Symbol, Remark, Lays, Puts, Gains, IsSpelled, Joined, quotes_doubled};
-ghost use Rattle.sif_export.specs.TreeWords.{pattern_words, name_words, message_words};
+ghost use Rattle.sif_export.specs.Words.{Str, Remark, Lays, Puts, Gains, Joined, quotes_doubled};
+ghost use Rattle.sif_export.specs.TreeWords.{pattern_words};
 ghost use Rattle.sif_export.specs.ExportText.{keyed, spaced, spaced_behind, way_name, list_words, class_words, annotation_words, string_text, pair_text, class_text, annotation_text, comment_text, body_text, method_text, is_empty_body};
 
 use crate::pieces::{inner_piece, piece, two_pieces};

@@ -1,5 +1,5 @@
 // Parts of an element's text on the way out: each bang is written twice.
-ghost use Rattle.std.specs.Prelude.{◌≡◌, ◌≢◌, ◌<◌, ◌≤◌, ◌++◌, ◌∷◌, [], ℕ, length, slice_index};
+ghost use Rattle.std.specs.Prelude.{◌≡◌, ◌≢◌, ◌<◌, ◌≤◌, ◌++◌, ℕ, length, slice_index};
 ghost use Rattle.st_base.specs.Streams.{HasCause};
 ghost use Rattle.sif_export.specs.Words.{Puts, quotes_doubled, quoted};
 

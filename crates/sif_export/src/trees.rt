@@ -1,7 +1,7 @@
 // Trees, written word by word.
-ghost use Rattle.std.specs.Prelude.{◌≡◌, ◌≤◌, ◌∷◌, [], map, length, take, drop, if◌then◌else◌};
+ghost use Rattle.std.specs.Prelude.{◌≡◌, ◌≤◌, ◌∷◌, [], length, take, drop, if◌then◌else◌};
 ghost use Rattle.st_base.specs.Streams.{HasCause};
-ghost use Rattle.sif_export.specs.Words.{Word, Mark, Lays};
+ghost use Rattle.sif_export.specs.Words.{Mark, Lays};
 ghost use Rattle.sif_export.specs.TreeWords.{primary_words, statement_words, block_words, body_parts, expr_words, each_message, operand_words, literal_words, target_words, named_words, colon_words, temporary_words, parameter_words, first_part, other_parts, top_words};
 
 use crate::pieces::run_of;

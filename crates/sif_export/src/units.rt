@@ -1,5 +1,5 @@
 // Units and whole programs, element by element.
-ghost use Rattle.std.specs.Prelude.{◌≡◌, ◌++◌, ◌∷◌, [], map, OnOk, OnErr};
+ghost use Rattle.std.specs.Prelude.{◌≡◌, map, OnOk, OnErr};
 ghost use Rattle.std.specs.Io.KnownBytes.{append_known};
 ghost use Rattle.st_base.specs.Streams.{HasCause, GainsPrefix};
 ghost use Rattle.sif_chunks.specs.Writing.{all_closed};

@@ -1,8 +1,7 @@
 // Words with the gaps before them.
-ghost use Rattle.std.specs.Prelude.{◌≡◌, ◌≢◌, ◌++◌, ◌∷◌, [], ℕ, if◌then◌else◌};
+ghost use Rattle.std.specs.Prelude.{◌≡◌, ◌++◌, ◌∷◌, [], if◌then◌else◌};
 ghost use Rattle.st_base.specs.Streams.{HasCause};
-ghost use Rattle.std.specs.Fmt.{signed_decimal};
-ghost use Rattle.sif_export.specs.Words.{Word, Mark, Number, Symbol, Str, Remark, Lays, Puts, IsSpelled, closes_sign, gap_bytes, quoted, quotes_doubled};
+ghost use Rattle.sif_export.specs.Words.{Word, Mark, Number, Symbol, Remark, Lays, IsSpelled, closes_sign, gap_bytes, quoted};
 
 use crate::pieces::{piece, quoted_piece, two_pieces};
 use crate::sign::{Gap, Sign};
