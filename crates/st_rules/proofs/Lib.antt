@@ -38,3 +38,5 @@ pub mod SoundTrees
 pub mod SoundNames
 pub mod SoundMade
 pub mod SoundProgram
+pub mod Writing
+pub mod SoFar

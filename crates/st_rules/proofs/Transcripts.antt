@@ -18,7 +18,7 @@ use Rattle.st_rules.specs.StepLimits.{Begins}
 pub begins_itself : (a : Text) → Begins a a
 begins_itself a = record { rest = []; whole = sym (append-nil a) }
 
-begins_more : (a b c : Text) → Begins a b → Begins a (b ++ c)
+pub begins_more : (a b c : Text) → Begins a b → Begins a (b ++ c)
 begins_more a b c x = record { rest = x.rest ++ c; whole = ap (λ d. d ++ c) x.whole ∙ append_assoc a x.rest c }
 
 -- the outcome's Transcript begins with this text

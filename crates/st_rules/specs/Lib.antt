@@ -18,3 +18,4 @@ pub mod StepLimits
 pub mod Flat
 pub mod Compilable
 pub mod Flattened
+pub mod SoFar
