@@ -17,6 +17,8 @@ mod meaning;
 mod rules;
 mod scopes;
 mod table;
+#[cfg(test)]
+mod tests;
 mod view;
 
 pub use answer::{CheckAnswer, Checked, check};
