@@ -80,9 +80,9 @@ fn one_line_for_each_unit(rt: HostRuntime) -> Result<(), Fail> {
     )?;
     add(alloc, &mut units, UnitKind::ProgramInitializer(hello))?;
     let lines = listing(alloc, units.as_slice())?;
-    assert!(rt; lines.as_slice() == b"version 1.0\nconstant Limits.Max\ninitializer\n");
+    assert!(rt; lines.as_slice() == b"version 1.0\nconstant Limits.Max\ninitializer\n".as_slice());
     let line = ok_line(alloc, &Definition { units })?;
-    assert!(rt; line.as_slice() == b"ok 3 units 4 elements\n");
+    assert!(rt; line.as_slice() == b"ok 3 units 4 elements\n".as_slice());
     Ok(())
 }
 
@@ -101,7 +101,7 @@ fn what_is_shown(rt: HostRuntime) -> Result<(), Fail> {
     let mut out = Vec::new(alloc);
     let unbuilt = show_units(units.as_slice(), &mut out)?;
     assert!(rt; unbuilt.is_none());
-    assert!(rt; out.as_slice() == b"hi\n");
+    assert!(rt; out.as_slice() == b"hi\n".as_slice());
     let other = body(
         alloc,
         b"Transcript",
