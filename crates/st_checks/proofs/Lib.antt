@@ -10,3 +10,9 @@ pub mod UnitFaults
 pub mod FirstBreaks
 pub mod Members
 pub mod FirstLaw
+pub mod Leasts
+pub mod Repeats
+pub mod Variables
+pub mod Outside
+pub mod Walking
+pub mod ClassMaps

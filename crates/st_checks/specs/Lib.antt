@@ -7,3 +7,6 @@ pub mod Keys
 pub mod Lists
 pub mod Faults
 pub mod Answers
+pub mod NameSets
+pub mod Views
+pub mod Walks

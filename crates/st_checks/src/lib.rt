@@ -4,15 +4,21 @@
 
 mod answer;
 mod bodies;
+#[cfg(test)]
+mod body_tests;
 mod broken;
 mod built_in;
+mod classes;
 mod key;
 pub mod law;
 mod line;
 mod lists;
+mod meaning;
 mod rules;
+mod scopes;
 mod table;
 #[cfg(test)]
 mod tests;
+mod view;
 
 pub use answer::{CheckAnswer, Checked, check};

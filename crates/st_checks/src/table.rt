@@ -6,6 +6,7 @@ ghost use Rattle.st_checks.specs.Declarations.{class_named, class_of_unit, decla
 ghost use Rattle.st_checks.specs.Keys.{first_unit, has_key, text_key, Notes};
 
 use crate::built_in::is_built_in;
+use crate::classes::{ClassNames, Classes};
 use crate::key::Key;
 use indexmap::IndexMap;
 use sqlite_items::at;
@@ -14,15 +15,16 @@ use st_tree::units::{ClassUnit, Unit, UnitKind};
 use std::alloc::Global;
 use std::marker::Model;
 
-/// The units of a file, with the place of the first for each key. Contracts see the units.
+/// The units of a file, with the place of the first for each key and the names of the classes. Contracts see the units.
 #[derive(Drop)]
 pub(crate) struct Table<'a> {
     units: &'a [Unit],
     first: IndexMap<Key<'a>, usize>,
+    classes: Classes<'a>,
 }
 
 impl<'a> Model for Table<'a> {
-    ghost use Rattle.std.specs.Prelude.{List};
+    ghost use Rattle.std.specs.Prelude.{◌≡◌, List};
     ghost use Rattle.std.specs.Coded.{coded_list};
     ghost use Rattle.st_tree.specs.contracts.units.Unit as unit;
     ghost use Rattle.st_tree.specs.declared.units.Unit.{Unit};
@@ -34,7 +36,7 @@ impl<'a> Model for Table<'a> {
 
     ghost view = { λ t. t.units.now };
 
-    ghost invariant = { λ t. IsTable t.units.now t.first };
+    ghost invariant = { λ t. IsTable t.units.now t.first × (t.classes ≡ t.units.now) };
 }
 
 // Notes the unit's key, unless an earlier unit has it.
@@ -64,7 +66,12 @@ impl<'a> Table<'a> {
         for (index, unit) in units.iter().enumerate() {
             note(&mut first, unit, index)?;
         }
-        Ok(Table { units, first })
+        let classes = Classes::new(alloc, units)?;
+        Ok(Table {
+            units,
+            first,
+            classes,
+        })
     }
 
     // The first unit that declares or defines what the key names.
@@ -251,6 +258,16 @@ impl<'a> Table<'a> {
             Some(unit) => class_of_unit(unit),
             None => None,
         }
+    }
+
+    /// The same class, with its names in sets.
+    pub(crate) fn class_names(&self, name: &[u8]) -> Option<&ClassNames<'a>>
+        ensures { option_copied result ≡ class_named self.now name.now }
+    {
+        if is_built_in(name) {
+            return None;
+        }
+        self.classes.get(name)
     }
 }
 
