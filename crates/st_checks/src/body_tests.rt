@@ -155,22 +155,33 @@ fn file(alloc: Global) -> Result<UnitList, OutOfMemory> {
     Ok(units)
 }
 
-// The faults of a body on a side of `Below`, with the parameter `p` at byte 3.
+// The faults of a body on a side of `Below`.
+fn faults_in<'a>(
+    alloc: Global,
+    units: &'a [Unit],
+    side: MethodSide,
+    parameters: &'a [Name],
+    body: &'a Body,
+) -> Result<BodyFaults, OutOfMemory> {
+    let table = Table::new(alloc, units)?;
+    let seen = Seen {
+        class: b"Below",
+        side,
+        parameters,
+        body,
+    };
+    body_faults(alloc, &table, seen)
+}
+
+// The same, with the parameter `p` at byte 3.
 fn faults_of(
     alloc: Global,
     units: &UnitList,
     side: MethodSide,
     body: &Body,
 ) -> Result<BodyFaults, OutOfMemory> {
-    let table = Table::new(alloc, units.as_slice())?;
     let parameters = one(alloc, name(alloc, b"p", 3)?)?;
-    let seen = Seen {
-        class: b"Below",
-        side,
-        parameters: parameters.as_slice(),
-        body,
-    };
-    body_faults(alloc, &table, seen)
+    faults_in(alloc, units.as_slice(), side, parameters.as_slice(), body)
 }
 
 // The faults of `name := name` in a method with the parameter `p` and the temporary `t`.
