@@ -4,8 +4,6 @@
 
 mod lines;
 mod shows;
-#[cfg(test)]
-mod tests;
 
 pub use lines::{listing, ok_line};
 pub use shows::show_units;

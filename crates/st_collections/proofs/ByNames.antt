@@ -1,5 +1,5 @@
 -- Of a program, what a message does at once asks for its names alone.
-use Rattle.std.proofs.Common.{◌≡◌, ℕ, zero, suc, ◌+◌, ◌-◌, List, [], ◌∷◌, ◌++◌, Option, Some, None, if◌then◌else◌, refl, ap, sym, ◌∙◌}
+use Rattle.std.proofs.Common.{◌≡◌, ℕ, zero, suc, ◌+◌, List, [], ◌++◌, Option, Some, None, if◌then◌else◌, refl, ap, ◌∙◌}
 use Rattle.object_heap.specs.declared.value.Value.{Value}
 use Rattle.object_heap.specs.declared.value.Value.TheVariants.{Nil, True, False, Integer, Character, Symbol, Class, Meta, Transcript, Object}
 use Rattle.object_heap.specs.declared.trouble.Trouble.TheVariants.{CollectionExpected, StringExpected}

@@ -1,26 +1,24 @@
 -- The elements of a collection, one by one.
-use Rattle.std.proofs.Common.{◌≡◌, ℕ, zero, suc, ◌+◌, ◌-◌, ◌<◌, ◌≤◌, ◌^◌, Bool, true, false, List, [], ◌∷◌, ◌++◌, map, reverse, length, get_or, nat_eq, nat_lt, inl, inr, refl, ap, sym, ◌∙◌, arith, add-zero, IsTrue, Some, None, Ok, Err, nat_le, ◌&&◌, if◌then◌else◌, ◌||◌}
+use Rattle.std.proofs.Common.{◌≡◌, ℕ, zero, suc, ◌+◌, ◌-◌, ◌<◌, ◌≤◌, ◌^◌, Bool, true, false, List, [], ◌∷◌, ◌++◌, map, reverse, length, get_or, nat_eq, nat_lt, refl, ap, sym, ◌∙◌, arith, add-zero, IsTrue, Some, None, Ok, nat_le, ◌&&◌, if◌then◌else◌, ◌||◌}
 use Rattle.std.specs.Prelude.{ℤ, pos, negsuc, int_lt}
 use Rattle.std.specs.List.{range_with_len}
 use Rattle.std.specs.Option.{ok_or}
-use borrow.Author.Tests.{eqb-true, eq-eqb}
-use Rattle.std.proofs.lemmas.Bool.{cases_lt, lt-ltb, le-ltb, or_left, le-leb, leb-true, and_parts, and_from, ltb-true, ltb-false}
+use borrow.Author.Tests.{eq-eqb}
+use Rattle.std.proofs.lemmas.Bool.{le-ltb, or_left, le-leb, leb-true, and_parts, and_from, ltb-true, ltb-false}
 use Rattle.std.proofs.lemmas.List.{length-reverse, length-append, get_or-reverse, get_or_append_left, get_or-append_right}
 use Rattle.std.proofs.lemmas.List.FromFn.{fill_by_all}
 use Rattle.object_heap.specs.declared.value.Value.{Value}
 use Rattle.object_heap.specs.declared.value.Value.TheVariants.{Nil, True, False, Integer, Character, Symbol, Class, Meta, Transcript, Object}
-use Rattle.object_heap.specs.declared.trouble.Trouble.{Trouble}
 use Rattle.object_heap.specs.declared.trouble.Trouble.TheVariants.{ByteExpected, IndexOutOfRange}
 use Rattle.object_heap.specs.Store.{Store, object_at}
 use Rattle.st_code.specs.Program.{Program}
-use Rattle.st_code.specs.BuiltIns.{array_class, byte_array_class, interval_class, ordered_collection_class, string_class}
+use Rattle.st_code.specs.BuiltIns.{array_class, byte_array_class, interval_class, ordered_collection_class}
 use Rattle.st_collections.specs.declared.items.Items.{Items}
 use Rattle.st_collections.specs.declared.kinds.ElementKind.{ElementKind}
-use Rattle.st_collections.specs.Actions.{Action, Gives, Fails, makes_slots}
+use Rattle.st_collections.specs.Actions.{makes_slots}
 use Rattle.st_collections.specs.Answers.{place_of_index}
-use Rattle.st_collections.specs.Items.{IsIndex, Reads, from_bytes, is_byte_item, is_of_kind, all_of_kind, item_at, items_of}
+use Rattle.st_collections.specs.Items.{IsIndex, Reads, is_byte_item, is_of_kind, all_of_kind, item_at, items_of}
 use Rattle.st_collections.specs.Kinds.{element, elements, elements_from, is_a, is_sequence, size_of, some_elements, species}
-use Rattle.st_collections.specs.ObjectRows.{index_in, indexed}
 use Rattle.st_collections.specs.SequenceRows.{all_values, copy_between, element_trouble, is_byte, is_index, join, makes_sequence}
 use Rattle.st_collections.proofs.TextItems.{known_of_size}
 

@@ -1,24 +1,23 @@
 -- A gap that moves through the slots of an object, one place at a time.
-use Rattle.std.proofs.Common.{Ok, Err, ◌≡◌, ℕ, zero, suc, ◌+◌, ◌-◌, ◌*◌, ◌/◌, ◌<◌, ◌≤◌, Bool, true, false, List, [], ◌∷◌, ◌++◌, length, get_or, set, take, drop, replicate, nat_lt, nat_le, max, inl, inr, refl, ap, sym, ◌∙◌, arith, add-zero, zero-add, add-one, if◌then◌else◌}
+use Rattle.std.proofs.Common.{Ok, Err, ◌≡◌, ℕ, zero, suc, ◌+◌, ◌-◌, ◌*◌, ◌<◌, ◌≤◌, Bool, true, false, List, [], ◌∷◌, ◌++◌, length, get_or, set, take, drop, replicate, nat_lt, nat_le, max, inl, inr, refl, ap, sym, ◌∙◌, arith, add-zero, zero-add, add-one, if◌then◌else◌}
 use Rattle.std.specs.List.{insert, remove}
-use Rattle.std.proofs.lemmas.Bool.{cases_lt, leb-true, ne_eqb, le-leb, lt-leb, lt-ltb, le-ltb, ltb-true, ltb-false}
+use Rattle.std.proofs.lemmas.Bool.{cases_lt, leb-true, le-leb, ltb-true, ltb-false}
 use Rattle.std.proofs.Math.Nat.{div-one, one-mul}
-use Rattle.std.proofs.lemmas.List.{append_assoc, append-nil, drop_more, get_or-set_same, get_or_past, length-append, length-take-le, set-get_or, set-set, set_at, take_all, take_at, take_more, drop_at, take-append-drop}
+use Rattle.std.proofs.lemmas.List.{append_assoc, append-nil, drop_more, get_or-set_same, get_or_past, length-take-le, set-get_or, set-set, set_at, take_all, take_at, take_more, drop_at, take-append-drop}
 use Rattle.std.proofs.lemmas.List.Edits.{get_or-insert_below, get_or-insert_above, get_or-remove_above, insert_end, length-insert, length-remove}
 use Rattle.object_heap.specs.declared.value.Value.{Value}
 use Rattle.object_heap.specs.declared.value.Value.TheVariants.{Nil}
 use Rattle.object_heap.specs.Store.{Store, Object, no_object, object_at, object_set, regrown, resized, slot_at, with_capacity, with_length, with_room, slot_written, with_slot, with_slots}
 use Rattle.object_heap.specs.declared.heap.HeapStop.{HeapStop}
 use Rattle.object_heap.specs.declared.heap.HeapStop.TheVariants.{Limit, OutOfMemory}
-use Rattle.object_heap.specs.declared.trouble.Trouble.TheVariants.{CollectionIsEmpty}
 use Rattle.object_heap.specs.Charges.{Memory, charged, if_out, with_store}
 use Rattle.st_code.specs.Program.{Program}
 use Rattle.st_collections.specs.declared.answer.Built.{Built}
 use Rattle.st_collections.specs.Answers.{answer_of, memory_of, stop_answer, told, unless_out}
 use Rattle.st_collections.specs.Kinds.{size_of}
 use Rattle.st_collections.proofs.Objects.{stop_limit, stop_told}
-use Rattle.st_collections.specs.Actions.{Action, Fails, Makes}
-use Rattle.st_collections.specs.SequenceRows.{Room, adds, grown_in, grown_to, per_element, unless_empty, with_elements, without_element, with_room as put_room}
+use Rattle.st_collections.specs.Actions.{Makes}
+use Rattle.st_collections.specs.SequenceRows.{Room, adds, grown_in, grown_to, per_element, with_elements, without_element, with_room as put_room}
 use Rattle.st_collections.specs.Ordered.{IsOpen, room_answer, room_for_one, slots_set}
 
 -- ---- lists

@@ -1,5 +1,5 @@
 -- What makers make, by the places of their items.
-use Rattle.std.proofs.Common.{◌≡◌, ℕ, zero, suc, ◌+◌, ◌-◌, ◌*◌, ◌/◌, ◌<◌, ◌≤◌, Bool, true, false, List, [], ◌∷◌, map, length, get_or, replicate, nat_eq, inl, inr, refl, ap, sym, ◌∙◌, arith, pos}
+use Rattle.std.proofs.Common.{◌≡◌, ℕ, zero, suc, ◌+◌, ◌-◌, ◌*◌, ◌/◌, ◌<◌, true, List, [], ◌∷◌, length, get_or, replicate, inl, inr, refl, ap, sym, ◌∙◌, arith, pos}
 use Rattle.std.specs.List.{range_with_len}
 use Rattle.std.proofs.lemmas.Bool.{cases_lt}
 use Rattle.std.proofs.lemmas.List.{get_or_past, get_or-replicate, length-replicate}
@@ -10,7 +10,7 @@ use Rattle.object_heap.specs.Store.{Store, no_object, object_at}
 use Rattle.st_code.specs.Program.{Program}
 use Rattle.st_code.specs.BuiltIns.{array_class, byte_array_class}
 use Rattle.st_collections.specs.declared.items.Items.{Items}
-use Rattle.st_collections.specs.Actions.{Action, makes_bytes, makes_slots}
+use Rattle.st_collections.specs.Actions.{makes_bytes, makes_slots}
 use Rattle.st_collections.specs.AtOnce.{with_all}
 use Rattle.st_collections.specs.Items.{IsKnown, item_at, items_of}
 use Rattle.st_collections.specs.Kinds.{is_collection, key, size_of, slot_of, slots_of}

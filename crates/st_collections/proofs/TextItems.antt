@@ -1,17 +1,17 @@
 -- The items of a text are its bytes as Characters.
-use Rattle.std.proofs.Common.{◌≡◌, ℕ, suc, ◌+◌, ◌-◌, ◌<◌, ◌≤◌, ◌^◌, Bool, true, false, List, [], ◌∷◌, map, length, get_or, nat_eq, inl, inr, refl, ap, sym, ◌∙◌, arith, if◌then◌else◌, Some, None, add_comm, replicate}
+use Rattle.std.proofs.Common.{◌≡◌, ℕ, ◌+◌, ◌-◌, ◌<◌, ◌^◌, Bool, true, false, List, [], ◌∷◌, map, length, get_or, nat_eq, inl, inr, refl, ap, sym, ◌∙◌, arith, if◌then◌else◌, Some, None, add_comm, replicate}
 use Rattle.std.specs.List.{range_with_len}
 use Rattle.std.proofs.lemmas.Bool.{cases_lt}
 use Rattle.std.proofs.lemmas.List.{get_or_past, length-map, get_or-map, map-id, length-replicate, get_or-replicate}
 use Rattle.std.proofs.lemmas.List.FromFn.{fill_by_all}
 use Rattle.object_heap.specs.declared.value.Value.{Value}
 use Rattle.object_heap.specs.declared.value.Value.TheVariants.{Nil, True, False, Integer, Character, Symbol, Class, Meta, Transcript, Object}
-use Rattle.object_heap.specs.Store.{Store, Object as HeapObject, no_object, object_at}
-use Rattle.st_code.specs.Program.{Program, name_at}
+use Rattle.object_heap.specs.Store.{Store, no_object, object_at}
+use Rattle.st_code.specs.Program.{Program}
 use Rattle.st_code.specs.Texts.{Text, to_upper, to_lower}
 use Rattle.st_code.specs.BuiltIns.{string_class}
 use Rattle.st_collections.specs.declared.items.Items.{Items}
-use Rattle.st_collections.specs.Actions.{Action, makes_string, makes_bytes}
+use Rattle.st_collections.specs.Actions.{makes_string, makes_bytes}
 use Rattle.st_collections.specs.Items.{IsKnown, IsIndex, item_at, items_of}
 use Rattle.st_collections.specs.Kinds.{bytes_of, size_of, size_at, element, element_at}
 use Rattle.st_collections.specs.Orders.{text_of}

@@ -1,11 +1,11 @@
 -- Messages that make Intervals (ANSI 5.6.2), and what Associations hold.
-use Rattle.std.specs.Prelude.{ℕ, ◌^◌, ℤ, pos, Bool, List, [], ◌∷◌, nat_abs, nat_eq, nat_lt, if◌then◌else◌}
+use Rattle.std.specs.Prelude.{◌^◌, ℤ, pos, [], ◌∷◌, nat_abs, nat_eq, nat_lt, if◌then◌else◌}
 use Rattle.object_heap.specs.declared.value.Value.{Value}
 use Rattle.object_heap.specs.declared.value.Value.TheVariants.{Integer}
 use Rattle.object_heap.specs.declared.trouble.Trouble.TheVariants.{NumberExpected, StepIsZero}
 use Rattle.object_heap.specs.Store.{Store}
 use Rattle.st_code.specs.BuiltIns.{interval_class}
-use Rattle.st_collections.specs.Actions.{Action, Fails, PassesIntegers, first, second, makes_slots}
+use Rattle.st_collections.specs.Actions.{Action, Fails, PassesIntegers, makes_slots}
 use Rattle.st_collections.specs.Kinds.{integer_of, interval_size}
 
 abbrev pub with_integer : Value → (ℤ → Action) → Action

@@ -1,5 +1,5 @@
 -- OrderedCollections as they stand, and the room that one more element asks for.
-use Rattle.std.specs.Prelude.{ℕ, ◌+◌, ◌*◌, ◌<◌, ◌≤◌, ◌≡◌, max, Bool, false, List, length, get_or, nat_eq, nat_le, nat_lt, Result, Ok, Err, if◌then◌else◌}
+use Rattle.std.specs.Prelude.{ℕ, ◌+◌, ◌*◌, ◌≤◌, ◌≡◌, max, false, List, length, get_or, nat_eq, nat_le, nat_lt, Result, Ok, Err, if◌then◌else◌}
 use Rattle.object_heap.specs.declared.value.Value.{Value}
 use Rattle.object_heap.specs.declared.value.Value.TheVariants.{Nil, Object}
 use Rattle.object_heap.specs.declared.heap.HeapStop.{HeapStop}

@@ -1,5 +1,5 @@
 -- Texts in order, byte by byte (ANSI 5.7.10).
-use Rattle.std.specs.Prelude.{ℕ, List, [], ◌∷◌, Bool, true, false, map, nat_eq}
+use Rattle.std.specs.Prelude.{ℕ, [], ◌∷◌, true, false, map, nat_eq}
 use Rattle.std.specs.Ordering.{nat_cmp}
 use Rattle.std.specs.declared.cmp.Ordering.{Ordering}
 use Rattle.object_heap.specs.declared.value.Value.{Value}

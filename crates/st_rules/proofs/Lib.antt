@@ -32,6 +32,8 @@ pub mod FlatTop
 pub mod CompilableCheck
 pub mod CompilableRuns
 pub mod Targets
+pub mod AimedActions
+pub mod AimedResults
 pub mod Aims
 pub mod NeverStuck
 pub mod SoundTrees

@@ -7,7 +7,8 @@ use Rattle.st_rules.specs.Rules.{at_index}
 use Rattle.st_rules.specs.Runs.{Stuck, first_state, end_of}
 use Rattle.st_rules.specs.NeverStuck.{RulesNeverStuck, MachineNeverStuck}
 use Rattle.st_rules.proofs.Targets.{AimedAt, Ok}
-use Rattle.st_rules.proofs.Aims.{Aimed, aims_at, run_aims}
+use Rattle.st_rules.proofs.AimedResults.{Aimed}
+use Rattle.st_rules.proofs.Aims.{aims_at, run_aims}
 use Rattle.st_rules.proofs.SomeRun.{followed_by_the_rules}
 
 not_stuck : (o : Outcome) → AimedAt o [] → end_of o ≡ Stuck → ⊥

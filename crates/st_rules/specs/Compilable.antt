@@ -1,4 +1,4 @@
--- What resolution gives a program that is compiled: each variable that a body names is there, and one of a body further out is captured; a block stands directly in the body that makes it; a method and an initializer stand in no body; and no constant is a metaclass.
+-- What resolution gives a program that is compiled: each variable that a body names is there, and one of a body further out is captured; a block stands directly in the body that makes it; a method and an initializer stand in no body; and no constant is a metaclass. This form is the profile's own.
 use Rattle.std.specs.Prelude.{◌≡◌, ℕ, zero, suc, ◌<◌, Bool, true, false, ◌&&◌, List, [], ◌∷◌, length, Option, Some, None, nat_eq, nat_lt}
 use Rattle.object_heap.specs.declared.value.Value.{Value}
 use Rattle.object_heap.specs.declared.value.Value.TheVariants.{Meta}

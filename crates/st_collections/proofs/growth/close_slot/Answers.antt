@@ -1,7 +1,6 @@
-use Rattle.std.proofs.Common.{ℕ, ◌≡◌, ◌∙◌, sym, refl, arith, ◌+◌, ◌-◌, ◌*◌, ◌≤◌, ◌<◌, ap, get_or, length}
-use Rattle.std.specs.List.{insert, remove}
+use Rattle.std.proofs.Common.{◌≡◌, ◌∙◌, refl, arith, ◌-◌, ◌<◌, ap, get_or, length}
 use Rattle.object_heap.specs.declared.value.Value.TheVariants.{Nil}
-use Rattle.object_heap.specs.Store.{Store, object_at, object_set}
+use Rattle.object_heap.specs.Store.{Store, object_at}
 use Rattle.object_heap.specs.Charges.{with_store}
 use Rattle.st_collections.proofs.Gaps.{closed_first, closed_more, closed_all, stands_of_room}
 use Rattle.st_collections.proofs.growth.close_slot.Goals as goal

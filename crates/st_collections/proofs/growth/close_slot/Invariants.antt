@@ -1,4 +1,4 @@
-use Rattle.std.proofs.Common.{◌≡◌, ◌+◌, ◌-◌, ◌≤◌, ◌<◌, get_or, length}
+use Rattle.std.proofs.Common.{◌≡◌, ◌-◌, ◌≤◌, ◌<◌, get_or, length}
 use Rattle.std.specs.List.{insert, remove}
 use Rattle.object_heap.specs.declared.value.Value.TheVariants.{Nil}
 use Rattle.object_heap.specs.Charges.{with_store}

@@ -1,7 +1,5 @@
-use Rattle.std.proofs.Common.{ℕ, ◌≡◌, ◌∙◌, sym, refl, arith, ◌+◌, ◌-◌, ◌*◌, ◌≤◌, ◌<◌, ap, get_or, length}
-use Rattle.std.specs.List.{insert, remove}
-use Rattle.object_heap.specs.declared.value.Value.TheVariants.{Nil}
-use Rattle.object_heap.specs.Store.{Store, object_at, object_set}
+use Rattle.std.proofs.Common.{◌∙◌, arith, ◌-◌, ◌<◌, ap, length}
+use Rattle.object_heap.specs.Store.{Store, object_at}
 use Rattle.object_heap.specs.Charges.{with_store}
 use Rattle.st_collections.proofs.Gaps.{opened_more, stands_of_room}
 use Rattle.st_collections.proofs.growth.open_slot.Goals as goal

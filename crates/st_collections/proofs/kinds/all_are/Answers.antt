@@ -1,4 +1,4 @@
-use Rattle.std.proofs.Common.{◌≡◌, ◌∙◌, sym, refl, arith, ◌+◌, ◌-◌, ◌≤◌, ap}
+use Rattle.std.proofs.Common.{◌∙◌, sym, arith}
 use Rattle.st_collections.specs.Answers.{program_of}
 use Rattle.st_collections.proofs.ElementLists.{all_first, all_true, all_false, all_end}
 use Rattle.st_collections.proofs.kinds.all_are.Goals as goal

@@ -1,4 +1,4 @@
-use Rattle.std.proofs.Common.{◌≡◌, ◌∙◌, sym, refl, arith, ◌+◌, ◌-◌, ◌*◌, ◌/◌, ◌≤◌, ◌<◌, ap, length}
+use Rattle.std.proofs.Common.{◌∙◌, sym, arith, ◌+◌}
 use Rattle.st_collections.specs.Answers.{program_of}
 use Rattle.st_collections.proofs.ElementLists.{index_of}
 use Rattle.st_collections.proofs.Makings.{all_is}

@@ -1,4 +1,3 @@
-use Rattle.std.proofs.Common.{◌≡◌, ◌∙◌, sym, refl, arith, ◌+◌, ◌-◌, ◌*◌, ◌/◌, ◌≤◌, ◌<◌, ap, length}
 use Rattle.st_collections.specs.Answers.{program_of}
 use Rattle.st_collections.proofs.Makings.{zeros_is}
 use Rattle.st_collections.proofs.making.zeros.Goals as goal

@@ -1,8 +1,6 @@
-use Rattle.std.proofs.Common.{ℕ, ◌≡◌, ◌∙◌, sym, refl, arith, ◌+◌, ◌-◌, ◌*◌, ◌≤◌, ◌<◌, ap, get_or, length}
-use Rattle.std.specs.List.{insert, remove}
-use Rattle.object_heap.specs.declared.value.Value.TheVariants.{Nil}
-use Rattle.object_heap.specs.Store.{Store, object_at, object_set}
-use Rattle.object_heap.specs.Charges.{with_store}
+use Rattle.std.proofs.Common.{◌+◌, ◌≤◌, length}
+use Rattle.std.specs.List.{insert}
+use Rattle.object_heap.specs.Store.{object_at, object_set}
 use Rattle.st_collections.specs.Ordered.{room_for_one}
 use Rattle.st_collections.specs.SequenceRows.{with_room as put_room}
 use Rattle.object_heap.specs.Store.{with_room}

@@ -1,8 +1,4 @@
-use Rattle.std.proofs.Common.{ℕ, ◌≡◌, ◌∙◌, sym, refl, arith, ◌+◌, ◌-◌, ◌*◌, ◌≤◌, ◌<◌, ap, get_or, length}
-use Rattle.std.specs.List.{insert, remove}
-use Rattle.object_heap.specs.declared.value.Value.TheVariants.{Nil}
-use Rattle.object_heap.specs.Store.{Store, object_at, object_set}
-use Rattle.object_heap.specs.Charges.{with_store}
+use Rattle.object_heap.specs.Store.{object_at}
 use Rattle.st_collections.proofs.Gaps.{without_is}
 use Rattle.st_collections.proofs.ordered.remove_at.Goals as goal
 

@@ -1,10 +1,6 @@
-use Rattle.std.proofs.Common.{ℕ, ◌≡◌, ◌∙◌, sym, refl, arith, ◌+◌, ◌-◌, ◌*◌, ◌≤◌, ◌<◌, ap, get_or, length}
-use Rattle.std.specs.List.{insert, remove}
-use Rattle.object_heap.specs.declared.value.Value.TheVariants.{Nil}
-use Rattle.object_heap.specs.Store.{Store, object_at, object_set}
-use Rattle.object_heap.specs.Charges.{with_store}
+use Rattle.std.proofs.Common.{◌∙◌, sym, refl, length}
+use Rattle.object_heap.specs.Store.{object_at}
 use Rattle.std.proofs.lemmas.Bool.{ne_eqb}
-use Rattle.st_collections.specs.SequenceRows.{without_element}
 use Rattle.st_collections.proofs.ordered.remove_first.Goals as goal
 
 pub returns-then-length-eq0-clause-memory : goal.returns-then-length-eq0-clause-memory

@@ -1,4 +1,4 @@
-use Rattle.std.proofs.Common.{ℕ, ◌≡◌, ◌∙◌, sym, refl, arith, ◌+◌, ◌-◌, ◌*◌, ◌/◌, ◌≤◌, ◌<◌, ap, length}
+use Rattle.std.proofs.Common.{ℕ, arith, ◌/◌, ap}
 use Rattle.st_collections.specs.Answers.{program_of}
 use Rattle.st_collections.proofs.Makings.{known_of_slots, values_is}
 use Rattle.st_collections.proofs.pairs.values.Goals as goal

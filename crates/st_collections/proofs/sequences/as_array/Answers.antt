@@ -1,4 +1,4 @@
-use Rattle.std.proofs.Common.{◌≡◌, ◌∙◌, sym, refl, arith, ◌+◌, ◌≤◌, ap}
+use Rattle.std.proofs.Common.{arith, ◌+◌}
 use Rattle.st_collections.specs.Answers.{program_of}
 use Rattle.st_collections.proofs.ElementLists.{index_of, array_is}
 use Rattle.st_collections.proofs.sequences.as_array.Goals as goal

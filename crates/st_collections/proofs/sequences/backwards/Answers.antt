@@ -1,4 +1,4 @@
-use Rattle.std.proofs.Common.{◌≡◌, ◌∙◌, sym, refl, arith, ◌+◌, ◌-◌, ◌≤◌, ap}
+use Rattle.std.proofs.Common.{◌∙◌, sym, arith, ◌-◌}
 use Rattle.st_collections.specs.Answers.{program_of}
 use Rattle.std.proofs.lemmas.Bool.{or_left}
 use Rattle.st_collections.specs.Kinds.{is_a, element}

@@ -1,4 +1,4 @@
-use Rattle.std.proofs.Common.{◌≡◌, ◌∙◌, sym, refl, arith, ◌+◌, ◌-◌, ◌≤◌, ap}
+use Rattle.std.proofs.Common.{◌∙◌, sym}
 use Rattle.st_collections.specs.Answers.{program_of}
 use Rattle.st_collections.proofs.ElementLists.{reads_joined, bytes_joined, bytes_of_species, no_trouble, join_is}
 use Rattle.st_collections.specs.Kinds.{elements}

@@ -1,4 +1,4 @@
-use Rattle.std.proofs.Common.{◌∙◌, sym, arith, add_comm, ◌+◌}
+use Rattle.std.proofs.Common.{arith, add_comm}
 use Rattle.st_collections.specs.Answers.{program_of}
 use Rattle.st_collections.proofs.TextItems.{index-text, copy_is}
 use Rattle.st_collections.proofs.strings.new_copy.Goals as goal

@@ -1,4 +1,4 @@
-use Rattle.std.proofs.Common.{◌∙◌, sym, arith, add_comm, ◌+◌}
+use Rattle.std.proofs.Common.{arith}
 use Rattle.st_collections.specs.Answers.{program_of}
 use Rattle.st_collections.proofs.TextItems.{index-text, lower_is}
 use Rattle.st_collections.proofs.strings.new_lower.Goals as goal

@@ -1,4 +1,4 @@
-use Rattle.std.proofs.Common.{◌≡◌, ◌<◌, length, arith}
+use Rattle.std.proofs.Common.{◌<◌, length, arith}
 use Rattle.st_collections.specs.Answers.{program_of}
 use Rattle.st_collections.specs.Orders.{text_of}
 use Rattle.st_collections.proofs.TextOrders.{behind_less, behind_greater, behind_more, end_less, end_greater, end_equal}

@@ -1,4 +1,4 @@
-use Rattle.std.proofs.Common.{◌≡◌, ◌≤◌, drop, length}
+use Rattle.std.proofs.Common.{◌≡◌, drop}
 use Rattle.st_collections.specs.Answers.{program_of}
 use Rattle.st_collections.specs.Orders.{folded, text_of, text_order}
 use Rattle.st_collections.proofs.texts.order_of.Given as goal
