@@ -133,7 +133,11 @@ impl Heap for ListHeap {
     }
 
     fn grow(&mut self, object: u32, capacity: u32) -> Result<(), HeapStop> {
-        let used = used_after(self.used, self.limit, capacity as u64)?;
+        self.grow_through(object, capacity, capacity)
+    }
+
+    fn grow_through(&mut self, object: u32, capacity: u32, charge: u32) -> Result<(), HeapStop> {
+        let used = used_after(self.used, self.limit, charge as u64)?;
         if (object as usize) < self.objects.len() {
             self.objects[object as usize].grow(capacity)?;
         }

@@ -40,7 +40,7 @@ constant_of (value.Meta class) = constant.Class class
 constant_of (value.Object object) = constant.Object object
 
 -- how many of the first so many variables are captured
-abbrev captured_before : ℕ → List Bool → ℕ
+abbrev pub captured_before : ℕ → List Bool → ℕ
 captured_before zero captured = 0
 captured_before (suc n) [] = 0
 captured_before (suc n) (true ∷ captured) = suc (captured_before n captured)
@@ -54,16 +54,16 @@ any_captured [] = false
 any_captured (true ∷ captured) = true
 any_captured (false ∷ captured) = any_captured captured
 
-abbrev placed : Bool → ℕ → List Bool → ℕ → Variable
+abbrev pub placed : Bool → ℕ → List Bool → ℕ → Variable
 placed true scopes captured index = variable.Scope scopes (captured_before index captured)
 placed false scopes captured index = variable.Own (index - captured_before index captured)
 
-abbrev outwards : ℕ → Bool → ℕ
+abbrev pub outwards : ℕ → Bool → ℕ
 outwards scopes true = suc scopes
 outwards scopes false = scopes
 
 -- a variable so many bodies outwards from this one, behind so many scopes: only a body that captures has a scope
-abbrev scoped_at : Program → ℕ → ℕ → Option ℕ → ℕ → Variable
+abbrev pub scoped_at : Program → ℕ → ℕ → Option ℕ → ℕ → Variable
 scoped_at p scopes up None index = variable.Own 0
 scoped_at p scopes zero (Some n) index = placed (is_captured (body_at p n).captured index) scopes (body_at p n).captured index
 scoped_at p scopes (suc up) (Some n) index = scoped_at p (outwards scopes (any_captured (body_at p n).captured)) up (body_at p n).outer index
@@ -90,7 +90,7 @@ instruction_of p code HomeReturn = instruction.HomeReturn
 instruction_of p code BlockEnd = instruction.BlockEnd
 
 -- the operands that stand behind an instruction, by those before it
-abbrev stand_after : Instruction → ℕ → ℕ
+abbrev pub stand_after : Instruction → ℕ → ℕ
 stand_after (instruction.PushConstant c) n = suc n
 stand_after instruction.PushSelf n = suc n
 stand_after (instruction.PushVariable v) n = suc n
@@ -105,7 +105,7 @@ stand_after instruction.HomeReturn n = n - 1
 stand_after instruction.BlockEnd n = n - 1
 
 -- the greatest number of operands that stand at once in this code, from so many on
-abbrev most_standing : List Instruction → ℕ → ℕ
+abbrev pub most_standing : List Instruction → ℕ → ℕ
 most_standing [] n = n
 most_standing (i ∷ is) n = max n (most_standing is (stand_after i n))
 
@@ -128,7 +128,7 @@ pub record Compiled : Type 0 where
   pub instructions : List Instruction
   pub width : ℕ
 
-abbrev compiled_with : Body → List Instruction → Compiled
+abbrev pub compiled_with : Body → List Instruction → Compiled
 compiled_with body is =
     record {
       kind = kind_of body.kind;
@@ -143,7 +143,7 @@ compiled_with body is =
 unfoldable pub compiled_body : Program → (code : ℕ) → Body → Compiled
 compiled_body p code body = compiled_with body (map (instruction_of p code) (code_body body.kind body.statements))
 
-abbrev compiled_from : Program → ℕ → List Body → List Compiled
+abbrev pub compiled_from : Program → ℕ → List Body → List Compiled
 compiled_from p code [] = []
 compiled_from p code (body ∷ bodies) = compiled_body p code body ∷ compiled_from p (suc code) bodies
 

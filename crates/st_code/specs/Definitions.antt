@@ -81,19 +81,19 @@ pub record Defined : Type 0 where
 abbrev pub nothing_defined : Defined
 nothing_defined = record { methods = []; initializers = []; bodies = []; objects = [] }
 
-abbrev counts_of : Defined → Counts
+abbrev pub counts_of : Defined → Counts
 counts_of d = record { bodies = length d.bodies; objects = length d.objects }
 
-abbrev context : Names → ℕ → Side → ℕ → Context
+abbrev pub context : Names → ℕ → Side → ℕ → Context
 context x class side code = record { names = x; class = class; side = side; code = code; scopes = [] }
 
-abbrev body_in : Names → ℕ → Side → Kind → List Text → NamedBody → Defined → Made (List Statement)
+abbrev pub body_in : Names → ℕ → Side → Kind → List Text → NamedBody → Defined → Made (List Statement)
 body_in x class side kind parameters b d =
     let code = length d.bodies in
     statements_made (inside (context x class side code) code (parameters ++ b.temporaries)) (record { bodies = suc code; objects = length d.objects }) b.statements
 
 -- the definitions with one more body, a method or an initializer
-abbrev with_body : Names → ℕ → Side → Kind → List Text → NamedBody → Defined → List MethodRow → List Initializer → Defined
+abbrev pub with_body : Names → ℕ → Side → Kind → List Text → NamedBody → Defined → List MethodRow → List Initializer → Defined
 with_body x class side kind parameters b d methods initializers =
     let statements = body_in x class side kind parameters b d in
     record {
@@ -103,11 +103,11 @@ with_body x class side kind parameters b d methods initializers =
       objects = d.objects ++ statements.objects;
     }
 
-abbrev with_method : Names → ℕ → Side → NamedMethod → Defined → Defined
+abbrev pub with_method : Names → ℕ → Side → NamedMethod → Defined → Defined
 with_method x class side m d =
     with_body x class side InMethod m.parameters m.body d (record { class = class; side = side; selector = number_or_last x.names m.selector; code = length d.bodies } ∷ []) []
 
-abbrev with_initializer : Names → ℕ → Side → Value → Option ℕ → NamedBody → Defined → Defined
+abbrev pub with_initializer : Names → ℕ → Side → Value → Option ℕ → NamedBody → Defined → Defined
 with_initializer x class side self target b d =
     with_body x class side InInitializer [] b d [] (record { code = length d.bodies; self = self; target = target } ∷ [])
 
@@ -137,7 +137,7 @@ pub record RunLimits : Type 0 where
 abbrev pub class_row : ClassNames → ClassRow
 class_row c = c.row
 
-abbrev program_with : Names → Defined → RunLimits → Program
+abbrev pub program_with : Names → Defined → RunLimits → Program
 program_with x d limits =
     record {
       names = x.names;

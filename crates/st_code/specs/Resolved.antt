@@ -14,11 +14,11 @@ has_text [] t = false
 has_text (u ∷ us) t = elim (same_text u t) [ true ↦ true | false ↦ has_text us t ]
 
 -- the names of a list that aren't in the other
-abbrev without : List Text → List Text → List Text
+abbrev pub without : List Text → List Text → List Text
 without [] out = []
 without (t ∷ ts) out = elim (has_text out t) [ true ↦ without ts out | false ↦ t ∷ without ts out ]
 
-abbrev if_inside : Bool → List Text → List Text
+abbrev pub if_inside : Bool → List Text → List Text
 if_inside true ts = ts
 if_inside false ts = []
 
@@ -104,20 +104,20 @@ pub data Meant : Type 0 where
   At : Place → Meant
   Value' : Value → Meant
 
-abbrev or_meant : Option Meant → Option Meant → Option Meant
+abbrev pub or_meant : Option Meant → Option Meant → Option Meant
 or_meant (Some m) o = Some m
 or_meant None o = o
 
-abbrev meant_shared : Option ℕ → Option Meant
+abbrev pub meant_shared : Option ℕ → Option Meant
 meant_shared (Some n) = Some (At (Shared n))
 meant_shared None = None
 
-abbrev in_pools : List SharedName → List Text → Text → Option Meant
+abbrev pub in_pools : List SharedName → List Text → Text → Option Meant
 in_pools shared [] t = None
 in_pools shared (pool ∷ pools) t = or_meant (meant_shared (place_in 0 shared (PoolName pool t))) (in_pools shared pools t)
 
 -- the class variables and then the pools of a class, and then those of the classes above
-abbrev in_classes : Names → ℕ → ℕ → Text → Option Meant
+abbrev pub in_classes : Names → ℕ → ℕ → Text → Option Meant
 in_classes x zero class t = None
 in_classes x (suc n) class t =
     or_meant (meant_shared (place_in 0 x.shared (ClassName class t)))
@@ -128,20 +128,20 @@ abbrev pub class_in : ℕ → List ClassNames → Text → Option ℕ
 class_in n [] t = None
 class_in n (c ∷ cs) t = elim (same_text c.row.name t) [ true ↦ Some n | false ↦ class_in (suc n) cs t ]
 
-abbrev meant_class : Option ℕ → Option Meant
+abbrev pub meant_class : Option ℕ → Option Meant
 meant_class (Some c) = Some (Value' (Class c))
 meant_class None = None
 
-abbrev meant_slot : (ℕ → Place) → Option ℕ → Option Meant
+abbrev pub meant_slot : (ℕ → Place) → Option ℕ → Option Meant
 meant_slot place (Some n) = Some (At (place n))
 meant_slot place None = None
 
 -- the instance variables on the side of instances, the class instance variables on the side of the class
-abbrev own_names : ClassNames → Side → Text → Option Meant
+abbrev pub own_names : ClassNames → Side → Text → Option Meant
 own_names c OfInstance t = meant_slot (λ n. Slot (c.base + n)) (text_in 0 c.instance_names t)
 own_names c side t = meant_slot ClassSlot (text_in 0 c.class_instance_names t)
 
-abbrev or_transcript : Option Meant → Meant
+abbrev pub or_transcript : Option Meant → Meant
 or_transcript (Some m) = m
 or_transcript None = Value' Transcript
 
@@ -154,7 +154,7 @@ meant_outside x class side t =
     (meant_shared (place_in 0 x.shared (GlobalName t))))))
 
 -- the innermost scope that declares a name comes first
-abbrev meant_from : Names → ℕ → Side → ℕ → List (List Text) → Text → Meant
+abbrev pub meant_from : Names → ℕ → Side → ℕ → List (List Text) → Text → Meant
 meant_from x class side up [] t = meant_outside x class side t
 meant_from x class side up (scope ∷ scopes) t = elim (text_in 0 scope t) [ Some n ↦ At (Scoped up n) | None ↦ meant_from x class side (suc up) scopes t ]
 
@@ -168,24 +168,24 @@ pub record Made (A : Type 0) : Type 0 where
   pub bodies : List Body
   pub objects : List HeapObject
 
-abbrev plain_made : {A : Type 0} → A → Made A
+abbrev pub plain_made : {A : Type 0} → A → Made A
 plain_made a = record { item = a; bodies = []; objects = [] }
 
 -- one behind the other
-abbrev both : {A B C : Type 0} → (A → B → C) → Made A → Made B → Made C
+abbrev pub both : {A B C : Type 0} → (A → B → C) → Made A → Made B → Made C
 both f a b = record { item = f a.item b.item; bodies = a.bodies ++ b.bodies; objects = a.objects ++ b.objects }
 
-abbrev mapped : {A B : Type 0} → (A → B) → Made A → Made B
+abbrev pub mapped : {A B : Type 0} → (A → B) → Made A → Made B
 mapped f a = record { item = f a.item; bodies = a.bodies; objects = a.objects }
 
-abbrev read_only : (class : ℕ) → List Value → List ℕ → HeapObject
+abbrev pub read_only : (class : ℕ) → List Value → List ℕ → HeapObject
 read_only class slots bytes = record { class = class; slots = slots; bytes = bytes; capacity = length slots; read_only = true; closure = None }
 
 abbrev pub number_or_last : List Text → Text → ℕ
 number_or_last names t = elim (text_in 0 names t) [ Some n ↦ n | None ↦ length names ]
 
 -- an array stands before its items
-abbrev array_made : ℕ → Made (List Value) → Made Value
+abbrev pub array_made : ℕ → Made (List Value) → Made Value
 array_made n items = record { item = Object n; bodies = []; objects = read_only 11 items.item [] ∷ items.objects }
 
 abbrev mutual
@@ -220,22 +220,22 @@ pub record Counts : Type 0 where
 abbrev pub behind : {A : Type 0} → Counts → Made A → Counts
 behind n a = record { bodies = n.bodies + length a.bodies; objects = n.objects + length a.objects }
 
-abbrev tree_of : Meant → Tree
+abbrev pub tree_of : Meant → Tree
 tree_of (At place) = Variable place
 tree_of (Value' v) = Constant v
 
-abbrev place_of : Meant → Place
+abbrev pub place_of : Meant → Place
 place_of (At place) = place
 place_of (Value' v) = Shared 0
 
-abbrev named : Context → Text → Meant
+abbrev pub named : Context → Text → Meant
 named x t = meant x.names x.class x.side x.scopes t
 
-abbrev assigned : Context → List Text → Tree → Tree
+abbrev pub assigned : Context → List Text → Tree → Tree
 assigned x [] t = t
 assigned x (name ∷ names) t = Assign (place_of (named x name)) (assigned x names t)
 
-abbrev class_of_context : Context → Value
+abbrev pub class_of_context : Context → Value
 class_of_context x = elim x.side [ OfInstance ↦ Class x.class | OfClass ↦ Meta x.class | _ ↦ Nil ]
 
 -- a body with its own number, before those of its blocks
@@ -251,15 +251,15 @@ pub data Receiver : Type 0 where
   ToTree : Tree → Receiver
   ToSuper : Receiver
 
-abbrev sent : Receiver → ℕ → Trees → Tree
+abbrev pub sent : Receiver → ℕ → Trees → Tree
 sent (ToTree t) selector args = Send selector t args
 sent ToSuper selector args = SuperSend selector args
 
-abbrev receiver_tree : Receiver → Tree
+abbrev pub receiver_tree : Receiver → Tree
 receiver_tree (ToTree t) = t
 receiver_tree ToSuper = Self
 
-abbrev cascaded : Receiver → Messages → Tree
+abbrev pub cascaded : Receiver → Messages → Tree
 cascaded (ToTree t) messages = Cascade t messages
 cascaded ToSuper messages = SuperCascade messages
 
@@ -270,18 +270,18 @@ pub record Chain : Type 0 where
   pub selector : ℕ
   pub args : Trees
 
-abbrev no_chain : Receiver → Chain
+abbrev pub no_chain : Receiver → Chain
 no_chain r = record { whole = r; before = r; selector = 0; args = no_trees }
 
-abbrev one_sent : Receiver → ℕ → Trees → Chain
+abbrev pub one_sent : Receiver → ℕ → Trees → Chain
 one_sent r selector args = record { whole = ToTree (sent r selector args); before = r; selector = selector; args = args }
 
 -- the last message of a chain and those of a cascade go to one receiver
-abbrev with_cascade : Chain → Messages → Tree
+abbrev pub with_cascade : Chain → Messages → Tree
 with_cascade c no_messages = receiver_tree c.whole
 with_cascade c (more_messages selector args row) = cascaded c.before (more_messages c.selector c.args (more_messages selector args row))
 
-abbrev is_one_sent : NamedMessages → Bool
+abbrev pub is_one_sent : NamedMessages → Bool
 is_one_sent none_sent = true
 is_one_sent (then_sent selector args row) = false
 
