@@ -30,7 +30,7 @@ impl Model for CellHeap {
 
     ghost Value = { CellMemory };
 
-    ghost use Rattle.std.specs.Prelude.{◌×◌, length, vec_capacity};
+    ghost use Rattle.std.specs.Prelude.{length, vec_capacity};
     ghost use Rattle.cell_heap.specs.Flat.{memory_of, Laid, HasRoom};
 
     ghost view = { λ h. record { memory = memory_of h.values.items h.bytes.items h.places.items h.closures.items h.scopes.items h.used h.limit; literal_room = h.literals } };
