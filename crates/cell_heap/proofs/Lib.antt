@@ -4,3 +4,4 @@ pub mod Changed
 pub mod Writes
 pub mod Grows
 pub mod Lengths
+pub mod Views

@@ -147,7 +147,7 @@ impl Heap for CellHeap {
     }
 
     fn grow_through(&mut self, object: u32, capacity: u32, charge: u32) -> Result<(), HeapStop> {
-        let used = used_after(self.used, self.limit, charge as u64)?;
+        self.used = used_after(self.used, self.limit, charge as u64)?;
         if (object as usize) < self.places.len() {
             let place = self.places[object as usize];
             if place.slots <= capacity {
@@ -159,9 +159,9 @@ impl Heap for CellHeap {
                     room: capacity,
                     ..place
                 };
+                return Ok(());
             }
         }
-        self.used = used;
         Ok(())
     }
 
