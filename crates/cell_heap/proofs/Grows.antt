@@ -1,7 +1,7 @@
 -- A new run of cells for an object's slots.
 use Rattle.std.proofs.Common.{◌≡◌, ◌≢◌, ◌⊎◌, ℕ, ◌+◌, ◌-◌, ◌<◌, ◌≤◌, List, [], ◌∷◌, ◌++◌, length, take, drop, map, set, get_or, replicate, refl, ap, sym, ◌∙◌, arith, append_assoc}
 use Rattle.std.proofs.lemmas.Bool.{le-leb, lt-leb}
-use Rattle.std.proofs.lemmas.List.{get_or_default, set-get_or, set_past, take_at, drop_at, length-drop, length-take-le}
+use Rattle.std.proofs.lemmas.List.{get_or_default, set-get_or, set_past, take_at, drop_at, length-drop, length-take-le, length-append, length-replicate}
 use Rattle.object_heap.specs.declared.value.Value.{Value}
 use Rattle.object_heap.specs.declared.value.Value.TheVariants.{Nil}
 use Rattle.object_heap.specs.Store.{Object, no_object, regrown, with_capacity}
@@ -54,3 +54,13 @@ module _ (values : List Value) (bytes : List ℕ) (places : List Place) (scopes 
       let leb : regrown capacity (object_of values bytes (place_at places i)) ≡ object_of values bytes (place_at places i) = rw (size, lt-leb (place_at places i).slots capacity more') refl in
       let whole : regrown capacity (get_or (map (object_of values bytes) places) i no_object) ≡ get_or (map (object_of values bytes) places) i no_object = ap (regrown capacity) old ∙ (leb ∙ sym old) in
       sym (ap (λ (o : Object). set (map (object_of values bytes) places) i o) whole ∙ set-get_or (map (object_of values bytes) places) i no_object)
+
+-- how many cells there are then
+pub length_grown : (values middle values' : List Value) (first slots capacity : ℕ) → first + slots ≤ length values → slots ≤ capacity → middle ≡ values ++ take slots (drop first values) → values' ≡ middle ++ replicate (capacity - slots) Nil → length values' ≡ length values + capacity
+length_grown values middle values' first slots capacity inside fits em ev =
+    let d : length (drop first values) ≡ length values - first = length-drop first values in
+    let t : length (take slots (drop first values)) ≡ slots = length-take-le slots (drop first values) (omega arith) in
+    let m : length middle ≡ length values + length (take slots (drop first values)) = ap length em ∙ length-append values (take slots (drop first values)) in
+    let r : length (replicate (capacity - slots) Nil) ≡ capacity - slots = length-replicate (capacity - slots) Nil in
+    let e : length values' ≡ length middle + length (replicate (capacity - slots) Nil) = ap length ev ∙ length-append middle (replicate (capacity - slots) Nil) in
+    omega arith

@@ -5,3 +5,4 @@ pub mod Writes
 pub mod Grows
 pub mod Lengths
 pub mod Views
+pub mod Places

@@ -88,3 +88,28 @@ module _ (values : List Value) (bytes : List ℕ) (places : List Place) (closure
     memory_of (set values (p.first + k) v) bytes places closures scopes used limit ≡ with_store (with_variable i k v (memory_of values bytes places closures scopes used limit).store) (memory_of values bytes places closures scopes used limit)
   view_scope_put i k v p li is lk =
       rw (objects_put_variable values bytes places scopes h i k v p li is lk, scopes_put_variable values bytes places scopes h i k v p li is lk) refl
+
+  pub view_grown : (middle values' : List Value) (i capacity n charge used' : ℕ) (p : Place) (result : Result ℕ HeapStop) →
+    result ≡ cond (nat_le (used + charge) limit) (Ok (used + charge)) (Err (Limit used charge)) → result ≡ Ok used' →
+    i < length places → p ≡ get_or places i p → p.slots ≤ capacity → n ≡ length values →
+    middle ≡ values ++ take p.slots (drop p.first_slot values) → values' ≡ middle ++ replicate (capacity - p.slots) Nil →
+    memory_of values' bytes (set places i (record { class = p.class; first_slot = n; slots = p.slots; room = capacity; first_byte = p.first_byte; bytes = p.bytes; read_only = p.read_only; closure = p.closure })) closures scopes used' limit ≡ grown i capacity charge (memory_of values bytes places closures scopes used limit)
+  view_grown middle values' i capacity n charge used' p result is ok li ip fits new em ev =
+      let room : (nat_le (used + charge) limit ≡ true) × (used' ≡ used + charge) = charged_is result used limit charge used' is ok in
+      let all : values' ≡ (values ++ take p.slots (drop p.first_slot values)) ++ replicate (capacity - p.slots) Nil = rw em at ev in
+      let one : values' ≡ values ++ (take p.slots (drop p.first_slot values) ++ replicate (capacity - p.slots) Nil) = all ∙ append_assoc values (take p.slots (drop p.first_slot values)) (replicate (capacity - p.slots) Nil) in
+      let s : map (scope_of values') scopes ≡ map (scope_of values) scopes = ap (λ (vs : List Value). map (scope_of vs) scopes) one ∙ scopes_kept values (take p.slots (drop p.first_slot values) ++ replicate (capacity - p.slots) Nil) (length bytes) places scopes h in
+      rw (objects_grown values bytes places scopes h values' i capacity n p li ip fits new all, s, room.0, room.1) refl
+
+  pub view_not_grown : (i capacity charge used' : ℕ) (p : Place) (result : Result ℕ HeapStop) →
+    result ≡ cond (nat_le (used + charge) limit) (Ok (used + charge)) (Err (Limit used charge)) → result ≡ Ok used' →
+    i < length places → p ≡ get_or places i p → capacity < p.slots →
+    memory_of values bytes places closures scopes used' limit ≡ grown i capacity charge (memory_of values bytes places closures scopes used limit)
+  view_not_grown i capacity charge used' p result is ok li ip more =
+      let room : (nat_le (used + charge) limit ≡ true) × (used' ≡ used + charge) = charged_is result used limit charge used' is ok in
+      rw (room.0, room.1, ← objects_not_grown values bytes places scopes h i capacity p li ip more) refl
+
+  pub view_resized : (values' : List Value) (i size : ℕ) (p : Place) → i < length places → p ≡ get_or places i p → size ≤ p.room → Cleared values values' (p.first_slot + p.slots) (size - p.slots) →
+    memory_of values' bytes (set places i (record { class = p.class; first_slot = p.first_slot; slots = size; room = p.room; first_byte = p.first_byte; bytes = p.bytes; read_only = p.read_only; closure = p.closure })) closures scopes used limit ≡ with_store (with_length i size (memory_of values bytes places closures scopes used limit).store) (memory_of values bytes places closures scopes used limit)
+  view_resized values' i size p li is fits c =
+      rw (objects_resized values values' bytes places scopes h i size p li is fits c, scopes_resized values values' bytes places scopes h i size p li is fits c) refl
