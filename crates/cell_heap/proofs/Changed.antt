@@ -1,13 +1,12 @@
 -- What a write to one object or scope leaves of the others.
-use Rattle.std.proofs.Common.{◌≡◌, ◌≢◌, ◌⊎◌, inl, inr, ℕ, ◌+◌, ◌-◌, ◌<◌, ◌≤◌, List, [], ◌∷◌, ◌++◌, length, take, drop, map, set, get_or, replicate, refl, ap, sym, ◌∙◌, arith}
-use Rattle.std.proofs.lemmas.List.{map-set, set-set, set-get_or, get_or_default}
+use Rattle.std.proofs.Common.{◌≡◌, ◌≢◌, ◌⊎◌, inl, inr, ℕ, ◌+◌, ◌<◌, ◌≤◌, List, length, map, set, refl, ap, ◌∙◌, arith}
+use Rattle.std.proofs.lemmas.List.{map-set, set-set}
 use Rattle.object_heap.specs.declared.value.Value.{Value}
-use Rattle.object_heap.specs.declared.value.Value.TheVariants.{Nil}
-use Rattle.object_heap.specs.Store.{Object, Scope, no_object, no_scope, slot_written, byte_written, variable_written}
+use Rattle.object_heap.specs.Store.{Object, Scope}
 use Rattle.cell_heap.specs.declared.place.Place.{Place}
 use Rattle.cell_heap.specs.declared.place.ScopePlace.{ScopePlace}
-use Rattle.cell_heap.specs.Flat.{object_of, scope_of, Apart, Laid, no_place, no_scope_place, place_at, scope_place_at}
-use Rattle.cell_heap.proofs.Windows.{same_map, changed_one, get_or-map, outside_window, inside_window}
+use Rattle.cell_heap.specs.Flat.{object_of, scope_of, Apart, no_place, no_scope_place, place_at, scope_place_at}
+use Rattle.cell_heap.proofs.Windows.{changed_one}
 
 -- a cell of one run is outside each run that is apart from it
 pub outside : (first size other others a : ℕ) → Apart first size other others → first ≤ a → a < first + size → (a < other) ⊎ (other + others ≤ a)

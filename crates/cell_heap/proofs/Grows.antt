@@ -1,7 +1,7 @@
 -- A new run of cells for an object's slots.
-use Rattle.std.proofs.Common.{◌≡◌, ◌≢◌, ◌⊎◌, ℕ, ◌+◌, ◌-◌, ◌<◌, ◌≤◌, List, [], ◌∷◌, ◌++◌, length, take, drop, map, set, get_or, replicate, refl, ap, sym, ◌∙◌, arith, append_assoc}
+use Rattle.std.proofs.Common.{◌≡◌, ◌≢◌, ℕ, ◌+◌, ◌-◌, ◌<◌, ◌≤◌, List, ◌++◌, length, take, drop, map, set, get_or, replicate, refl, ap, sym, ◌∙◌, arith, append_assoc}
 use Rattle.std.proofs.lemmas.Bool.{le-leb, lt-leb}
-use Rattle.std.proofs.lemmas.List.{get_or_default, set-get_or, set_past, take_at, drop_at, length-drop, length-take-le, length-append, length-replicate}
+use Rattle.std.proofs.lemmas.List.{get_or_default, set-get_or, take_at, drop_at, length-drop, length-take-le, length-append, length-replicate}
 use Rattle.object_heap.specs.declared.value.Value.{Value}
 use Rattle.object_heap.specs.declared.value.Value.TheVariants.{Nil}
 use Rattle.object_heap.specs.Store.{Object, no_object, regrown, with_capacity}
@@ -18,8 +18,8 @@ window-begins cells run more first size f s =
 
 module _ (values : List Value) (bytes : List ℕ) (places : List Place) (scopes : List ScopePlace) (h : Laid (length values) (length bytes) places scopes) where
   grow_at : (i capacity n : ℕ) → i < length places → (place_at places i).slots ≤ capacity → n ≡ length values →
-    map (object_of (values ++ (take (place_at places i).slots (drop (place_at places i).first_slot values) ++ replicate (capacity - (place_at places i).slots) Nil)) bytes) (set places i (record { class = (place_at places i).class; first_slot = n; slots = (place_at places i).slots; room = capacity; first_byte = (place_at places i).first_byte; bytes = (place_at places i).bytes; read_only = (place_at places i).read_only; closure = (place_at places i).closure }))
-    ≡ set (map (object_of values bytes) places) i (regrown capacity (object_of values bytes (place_at places i)))
+      map (object_of (values ++ (take (place_at places i).slots (drop (place_at places i).first_slot values) ++ replicate (capacity - (place_at places i).slots) Nil)) bytes) (set places i (record { class = (place_at places i).class; first_slot = n; slots = (place_at places i).slots; room = capacity; first_byte = (place_at places i).first_byte; bytes = (place_at places i).bytes; read_only = (place_at places i).read_only; closure = (place_at places i).closure }))
+      ≡ set (map (object_of values bytes) places) i (regrown capacity (object_of values bytes (place_at places i)))
   grow_at i capacity n li fits is =
       let run : List Value = take (place_at places i).slots (drop (place_at places i).first_slot values) in
       let more : List Value = run ++ replicate (capacity - (place_at places i).slots) Nil in
@@ -34,9 +34,9 @@ module _ (values : List Value) (bytes : List ℕ) (places : List Place) (scopes 
       rw leb (objects_changed values (values ++ more) bytes bytes places i q (with_capacity capacity (object_of values bytes (place_at places i))) li others this)
 
   pub objects_grown : (values' : List Value) (i capacity n : ℕ) (p : Place) → i < length places → p ≡ get_or places i p → p.slots ≤ capacity → n ≡ length values →
-    values' ≡ (values ++ take p.slots (drop p.first_slot values)) ++ replicate (capacity - p.slots) Nil →
-    map (object_of values' bytes) (set places i (record { class = p.class; first_slot = n; slots = p.slots; room = capacity; first_byte = p.first_byte; bytes = p.bytes; read_only = p.read_only; closure = p.closure }))
-    ≡ set (map (object_of values bytes) places) i (regrown capacity (get_or (map (object_of values bytes) places) i no_object))
+      values' ≡ (values ++ take p.slots (drop p.first_slot values)) ++ replicate (capacity - p.slots) Nil →
+      map (object_of values' bytes) (set places i (record { class = p.class; first_slot = n; slots = p.slots; room = capacity; first_byte = p.first_byte; bytes = p.bytes; read_only = p.read_only; closure = p.closure }))
+      ≡ set (map (object_of values bytes) places) i (regrown capacity (get_or (map (object_of values bytes) places) i no_object))
   objects_grown values' i capacity n p li is fits new e =
       let same : p ≡ place_at places i = is ∙ get_or_default places i p no_place li in
       let fits' : (place_at places i).slots ≤ capacity = rw same at fits in
@@ -44,7 +44,7 @@ module _ (values : List Value) (bytes : List ℕ) (places : List Place) (scopes 
 
   -- an object that has more slots already
   pub objects_not_grown : (i capacity : ℕ) (p : Place) → i < length places → p ≡ get_or places i p → capacity < p.slots →
-    map (object_of values bytes) places ≡ set (map (object_of values bytes) places) i (regrown capacity (get_or (map (object_of values bytes) places) i no_object))
+      map (object_of values bytes) places ≡ set (map (object_of values bytes) places) i (regrown capacity (get_or (map (object_of values bytes) places) i no_object))
   objects_not_grown i capacity p li is more =
       let same : p ≡ place_at places i = is ∙ get_or_default places i p no_place li in
       let more' : capacity < (place_at places i).slots = rw same at more in

@@ -1,5 +1,5 @@
 -- Another number of slots in an object's run.
-use Rattle.std.proofs.Common.{◌≡◌, ◌≢◌, ◌⊎◌, inl, inr, ℕ, ◌+◌, ◌-◌, ◌<◌, ◌≤◌, min, List, [], ◌∷◌, ◌++◌, length, take, drop, map, set, get_or, replicate, refl, ap, sym, ◌∙◌, arith}
+use Rattle.std.proofs.Common.{◌≡◌, ◌≢◌, ◌⊎◌, inl, inr, ℕ, ◌+◌, ◌-◌, ◌<◌, ◌≤◌, min, List, ◌++◌, length, take, drop, map, set, get_or, replicate, refl, ap, sym, ◌∙◌, arith}
 use Rattle.std.proofs.lemmas.Bool.{cases_lt, le-leb, lt-leb}
 use Rattle.std.proofs.lemmas.List.{get_or_default, set-get_or, length-drop, length-take, length-take-le, length-append, length-replicate, ext_get_or, get_or-take, get_or-drop, get_or_append_left, get_or-append_right, get_or-replicate}
 use Rattle.object_heap.specs.declared.value.Value.{Value}
@@ -51,8 +51,8 @@ module _ (values values' : List Value) (bytes : List ℕ) (places : List Place) 
   other_run first room slots size other others ls lz (inr a) l c = window_same values values' other others c.size l (λ k low high. c.below k (omega arith))
 
   resize_at : (i size : ℕ) → i < length places → size ≤ (place_at places i).room → Cleared values values' ((place_at places i).first_slot + (place_at places i).slots) (size - (place_at places i).slots) →
-    map (object_of values' bytes) (set places i (record { class = (place_at places i).class; first_slot = (place_at places i).first_slot; slots = size; room = (place_at places i).room; first_byte = (place_at places i).first_byte; bytes = (place_at places i).bytes; read_only = (place_at places i).read_only; closure = (place_at places i).closure }))
-    ≡ set (map (object_of values bytes) places) i (resized size (object_of values bytes (place_at places i)))
+      map (object_of values' bytes) (set places i (record { class = (place_at places i).class; first_slot = (place_at places i).first_slot; slots = size; room = (place_at places i).room; first_byte = (place_at places i).first_byte; bytes = (place_at places i).bytes; read_only = (place_at places i).read_only; closure = (place_at places i).closure }))
+      ≡ set (map (object_of values bytes) places) i (resized size (object_of values bytes (place_at places i)))
   resize_at i size li fits c =
       let p : Place = place_at places i in
       let q : Place = record { class = (place_at places i).class; first_slot = (place_at places i).first_slot; slots = size; room = (place_at places i).room; first_byte = (place_at places i).first_byte; bytes = (place_at places i).bytes; read_only = (place_at places i).read_only; closure = (place_at places i).closure } in
@@ -69,8 +69,8 @@ module _ (values values' : List Value) (bytes : List ℕ) (places : List Place) 
       narrow first room other others slots l (inr a) = inr (omega arith)
 
   pub objects_resized : (i size : ℕ) (p : Place) → i < length places → p ≡ get_or places i p → size ≤ p.room → Cleared values values' (p.first_slot + p.slots) (size - p.slots) →
-    map (object_of values' bytes) (set places i (record { class = p.class; first_slot = p.first_slot; slots = size; room = p.room; first_byte = p.first_byte; bytes = p.bytes; read_only = p.read_only; closure = p.closure }))
-    ≡ set (map (object_of values bytes) places) i (resized size (get_or (map (object_of values bytes) places) i no_object))
+      map (object_of values' bytes) (set places i (record { class = p.class; first_slot = p.first_slot; slots = size; room = p.room; first_byte = p.first_byte; bytes = p.bytes; read_only = p.read_only; closure = p.closure }))
+      ≡ set (map (object_of values bytes) places) i (resized size (get_or (map (object_of values bytes) places) i no_object))
   objects_resized i size p li is fits c =
       let same : p ≡ place_at places i = is ∙ get_or_default places i p no_place li in
       let fits' : size ≤ (place_at places i).room = rw same at fits in
@@ -91,7 +91,7 @@ module _ (values values' : List Value) (bytes : List ℕ) (places : List Place) 
 
 -- an object that has no room for so many slots
 pub objects_not_resized : (values : List Value) (bytes : List ℕ) (places : List Place) (i size : ℕ) (p : Place) → i < length places → p ≡ get_or places i p → p.room < size →
-  map (object_of values bytes) places ≡ set (map (object_of values bytes) places) i (resized size (get_or (map (object_of values bytes) places) i no_object))
+    map (object_of values bytes) places ≡ set (map (object_of values bytes) places) i (resized size (get_or (map (object_of values bytes) places) i no_object))
 objects_not_resized values bytes places i size p li is more =
     let same : p ≡ place_at places i = is ∙ get_or_default places i p no_place li in
     let more' : (place_at places i).room < size = rw same at more in

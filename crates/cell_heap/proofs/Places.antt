@@ -1,5 +1,5 @@
 -- The places stay laid where one of them changes.
-use Rattle.std.proofs.Common.{◌≡◌, ◌≢◌, ◌⊎◌, inl, inr, ℕ, ◌+◌, ◌*◌, ◌^◌, ◌<◌, ◌≤◌, List, length, set, get_or, refl, sym, ◌∙◌, arith}
+use Rattle.std.proofs.Common.{◌≡◌, ◌≢◌, ◌⊎◌, inl, inr, ℕ, ◌+◌, ◌<◌, ◌≤◌, List, length, set, get_or, refl, sym, ◌∙◌, arith}
 use Rattle.std.proofs.lemmas.Bool.{cases_eq}
 use Rattle.std.proofs.lemmas.List.{get_or-set_same, get_or-set_other, length-set, get_or_default}
 use Rattle.cell_heap.specs.declared.place.Place.{Place}
@@ -32,9 +32,9 @@ module _ (places : List Place) (i : ℕ) (q : Place) (li : i < length places) wh
       two_at Q j k (cases_eq j i) (cases_eq k i) n (first k lk') (second j lj') (old j k lj' lk' n)
 
 pub laid_set : (values values' bytes : ℕ) (places : List Place) (scopes : List ScopePlace) (i : ℕ) (q : Place) → Laid values bytes places scopes → i < length places → values ≤ values' → q.slots ≤ q.room → q.first_slot + q.room ≤ values' → q.first_byte ≡ (place_at places i).first_byte → q.bytes ≡ (place_at places i).bytes →
-  ((j : ℕ) → j < length places → j ≢ i → Apart q.first_slot q.room (place_at places j).first_slot (place_at places j).room) →
-  ((j : ℕ) → j < length scopes → Apart q.first_slot q.room (scope_place_at scopes j).first (scope_place_at scopes j).variables) →
-  Laid values' bytes (set places i q) scopes
+    ((j : ℕ) → j < length places → j ≢ i → Apart q.first_slot q.room (place_at places j).first_slot (place_at places j).room) →
+    ((j : ℕ) → j < length scopes → Apart q.first_slot q.room (scope_place_at scopes j).first (scope_place_at scopes j).variables) →
+    Laid values' bytes (set places i q) scopes
 laid_set values values' bytes places scopes i q h li more full ends first_byte size beside across = record {
   filled = each places i q li (λ (p : Place). p.slots ≤ p.room) full h.filled;
   inside = each places i q li (λ (p : Place). p.first_slot + p.room ≤ values') ends (λ j lj. omega (arith, h.inside j lj, more));
@@ -48,7 +48,7 @@ laid_set values values' bytes places scopes i q h li more full ends first_byte s
 
 -- a new run behind all cells
 pub laid_grown : (values values' bytes : ℕ) (places : List Place) (scopes : List ScopePlace) (i capacity n : ℕ) (p : Place) → Laid values bytes places scopes → i < length places → p ≡ get_or places i p → p.slots ≤ capacity → n ≡ values → values' ≡ values + capacity →
-  Laid values' bytes (set places i (record { class = p.class; first_slot = n; slots = p.slots; room = capacity; first_byte = p.first_byte; bytes = p.bytes; read_only = p.read_only; closure = p.closure })) scopes
+    Laid values' bytes (set places i (record { class = p.class; first_slot = n; slots = p.slots; room = capacity; first_byte = p.first_byte; bytes = p.bytes; read_only = p.read_only; closure = p.closure })) scopes
 laid_grown values values' bytes places scopes i capacity n p h li is fits en ev =
     let same : p ≡ place_at places i = is ∙ get_or_default places i p no_place li in
     let first_byte : p.first_byte ≡ (place_at places i).first_byte = rw same refl in
@@ -58,7 +58,7 @@ laid_grown values values' bytes places scopes i capacity n p h li is fits en ev 
 
 -- another number of slots in the same run
 pub laid_resized : (values values' bytes : ℕ) (places : List Place) (scopes : List ScopePlace) (i size : ℕ) (p : Place) → Laid values bytes places scopes → i < length places → p ≡ get_or places i p → size ≤ p.room → values' ≡ values →
-  Laid values' bytes (set places i (record { class = p.class; first_slot = p.first_slot; slots = size; room = p.room; first_byte = p.first_byte; bytes = p.bytes; read_only = p.read_only; closure = p.closure })) scopes
+    Laid values' bytes (set places i (record { class = p.class; first_slot = p.first_slot; slots = size; room = p.room; first_byte = p.first_byte; bytes = p.bytes; read_only = p.read_only; closure = p.closure })) scopes
 laid_resized values values' bytes places scopes i size p h li is fits ev =
     let same : p ≡ place_at places i = is ∙ get_or_default places i p no_place li in
     let first_byte : p.first_byte ≡ (place_at places i).first_byte = rw same refl in
@@ -69,8 +69,8 @@ laid_resized values values' bytes places scopes i size p h li is fits ev =
 
 -- the lists keep their room after a growth that is charged
 pub has_room_grown : (values values' bytes places places' closures scopes value_room value_room' byte_room place_room closure_room scope_room used used' limit literals capacity charge : ℕ) → HasRoom values bytes places closures scopes value_room byte_room place_room closure_room scope_room used limit literals →
-  capacity ≤ charge → values' ≡ values + capacity → places' ≡ places → value_room ≤ value_room' → used' ≡ used + charge → used + charge ≤ limit →
-  HasRoom values' bytes places' closures scopes value_room' byte_room place_room closure_room scope_room used' limit literals
+    capacity ≤ charge → values' ≡ values + capacity → places' ≡ places → value_room ≤ value_room' → used' ≡ used + charge → used + charge ≤ limit →
+    HasRoom values' bytes places' closures scopes value_room' byte_room place_room closure_room scope_room used' limit literals
 has_room_grown values values' bytes places places' closures scopes value_room value_room' byte_room place_room closure_room scope_room used used' limit literals capacity charge h fits ev ep room eu within = record {
   for_values = omega (arith, h.for_values);
   for_bytes = omega (arith, h.for_bytes);
@@ -85,8 +85,8 @@ has_room_grown values values' bytes places places' closures scopes value_room va
 }
 
 pub has_room_same : (values values' bytes places places' closures scopes value_room value_room' byte_room place_room closure_room scope_room used limit literals : ℕ) → HasRoom values bytes places closures scopes value_room byte_room place_room closure_room scope_room used limit literals →
-  values' ≡ values → places' ≡ places → value_room ≤ value_room' →
-  HasRoom values' bytes places' closures scopes value_room' byte_room place_room closure_room scope_room used limit literals
+    values' ≡ values → places' ≡ places → value_room ≤ value_room' →
+    HasRoom values' bytes places' closures scopes value_room' byte_room place_room closure_room scope_room used limit literals
 has_room_same values values' bytes places places' closures scopes value_room value_room' byte_room place_room closure_room scope_room used limit literals h ev ep room = record {
   for_values = omega (arith, h.for_values);
   for_bytes = h.for_bytes;

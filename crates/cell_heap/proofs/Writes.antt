@@ -1,6 +1,6 @@
 -- A write to a slot, a byte or a variable.
-use Rattle.std.proofs.Common.{◌≡◌, ◌≢◌, ◌⊎◌, inl, inr, ℕ, ◌+◌, ◌-◌, ◌<◌, ◌≤◌, List, [], ◌∷◌, ◌++◌, length, take, drop, map, set, get_or, refl, ap, sym, ◌∙◌, arith}
-use Rattle.std.proofs.lemmas.List.{set-get_or, get_or_default, get_or_past, set_past, length-map, length-take, length-drop}
+use Rattle.std.proofs.Common.{◌≡◌, ◌≢◌, ◌⊎◌, inl, inr, ℕ, ◌+◌, ◌<◌, ◌≤◌, List, length, map, set, get_or, refl, sym, ◌∙◌, arith}
+use Rattle.std.proofs.lemmas.List.{set-get_or, get_or_default, set_past}
 use Rattle.object_heap.specs.declared.value.Value.{Value}
 use Rattle.object_heap.specs.Store.{Object, Scope, no_object, no_scope, slot_written, byte_written, variable_written}
 use Rattle.cell_heap.specs.declared.place.Place.{Place}

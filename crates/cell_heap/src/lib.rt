@@ -7,6 +7,3 @@ mod charges;
 mod place;
 
 pub use cell_heap::CellHeap;
-
-
-

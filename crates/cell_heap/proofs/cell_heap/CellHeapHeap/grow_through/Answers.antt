@@ -1,4 +1,4 @@
-use Rattle.std.proofs.Common.{◌≡◌, ◌<◌, ◌≤◌, ◌+◌, ◌-◌, length, take, drop, replicate, arith, rules}
+use Rattle.std.proofs.Common.{◌≡◌, ◌<◌, ◌≤◌, ◌+◌, length, arith, rules}
 use Rattle.std.proofs.lemmas.Bool.{leb-true}
 use Rattle.std.proofs.lemmas.List.{length-set}
 use Rattle.cell_heap.proofs.Grows.{length_grown}
@@ -14,9 +14,10 @@ invariant_of-self c =
     let within : c.self.inside.used + c.args.charge ≤ c.self.inside.limit = leb-true (c.self.inside.used + c.args.charge) c.self.inside.limit charged.0 in
     let first : c.len-first_slot.result ≡ length c.self.inside.values.items = omega (arith, c.len-first_slot.ensures, c.self.inside.values.ok.0) in
     let size : length c.add_nils.new.values.items ≡ length c.self.inside.values.items + c.args.capacity =
-    length_grown c.self.inside.values.items c.copy_run.new.values.items c.add_nils.new.values.items c.index-place.result.now.first_slot c.index-place.result.now.slots c.args.capacity (omega (arith, inside.0, inside.1)) c.if-place-capacity.true c.copy_run.ensures.items c.add_nils.ensures.items in
-    (laid_grown (length c.self.inside.values.items) (length c.add_nils.new.values.items) (length c.self.inside.bytes.items) c.self.inside.places.items c.self.inside.scopes.items c.args.object c.args.capacity c.len-first_slot.result c.index-place.result.now c.self.invariant.0 there c.index-place.ensures c.if-place-capacity.true first size,
-      has_room_grown (length c.self.inside.values.items) (length c.add_nils.new.values.items) (length c.self.inside.bytes.items) (length c.self.inside.places.items) _ (length c.self.inside.closures.items) (length c.self.inside.scopes.items) c.self.inside.values.cap _ _ _ _ _ c.self.inside.used _ _ _ c.args.capacity c.args.charge c.self.invariant.1 c.requires size (length-set c.self.inside.places.items c.args.object _) (search rules) charged.1 within)
+    length_grown c.self.inside.values.items c.copy_run.new.values.items c.add_nils.new.values.items c.index-place.result.now.first_slot c.index-place.result.now.slots c.args.capacity (omega (arith, inside.0, inside.1)) c.if-place-capacity.true c.copy_run.ensures.items c.add_nils.ensures.items in (
+      laid_grown (length c.self.inside.values.items) (length c.add_nils.new.values.items) (length c.self.inside.bytes.items) c.self.inside.places.items c.self.inside.scopes.items c.args.object c.args.capacity c.len-first_slot.result c.index-place.result.now c.self.invariant.0 there c.index-place.ensures c.if-place-capacity.true first size,
+      has_room_grown (length c.self.inside.values.items) (length c.add_nils.new.values.items) (length c.self.inside.bytes.items) (length c.self.inside.places.items) _ (length c.self.inside.closures.items) (length c.self.inside.scopes.items) c.self.inside.values.cap _ _ _ _ _ c.self.inside.used _ _ _ c.args.capacity c.args.charge c.self.invariant.1 c.requires size (length-set c.self.inside.places.items c.args.object _) (search rules) charged.1 within,
+    )
 
 pub returns-then-place-capacity-clause-grown : goal.returns-then-place-capacity-clause-grown
 returns-then-place-capacity-clause-grown c =

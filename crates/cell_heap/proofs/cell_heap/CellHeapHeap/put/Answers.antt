@@ -1,4 +1,4 @@
-use Rattle.std.proofs.Common.{◌<◌, ◌≤◌, ◌+◌, length, arith}
+use Rattle.std.proofs.Common.{◌<◌, length, arith}
 use Rattle.cell_heap.proofs.Views.{view_put, place_inside}
 use Rattle.cell_heap.proofs.cell_heap.CellHeapHeap.put.Goals as goal
 
