@@ -7,3 +7,6 @@ mod charges;
 mod place;
 
 pub use cell_heap::CellHeap;
+
+#[cfg(test)]
+mod tests;
