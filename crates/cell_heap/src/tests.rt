@@ -15,6 +15,7 @@ struct Draws {
 impl Draws {
     fn below(&mut self, bound: u32) -> u32
         requires { 0 < bound }
+        ensures { result < bound }
     {
         self.state = self.state.wrapping_mul(1664525).wrapping_add(1013904223);
         (self.state >> 8) % bound
