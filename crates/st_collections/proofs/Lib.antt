@@ -5,6 +5,7 @@ pub mod Gaps
 pub mod Makings
 pub mod Objects
 pub mod Reaches
+pub mod Rooms
 pub mod Steady
 pub mod TextItems
 pub mod TextOrders
