@@ -1,3 +1,4 @@
+pub mod Appends
 pub mod ByNames
 pub mod Bytes
 pub mod ElementLists

@@ -1,7 +1,7 @@
 -- Rooms that are grown step by step.
 use Rattle.std.proofs.Common.{◌≡◌, ℕ, zero, suc, ◌+◌, ◌-◌, ◌*◌, ◌<◌, ◌≤◌, ◌⊎◌, inl, inr, max, min, Bool, true, false, nat_le, refl, ap, sym, ◌∙◌, arith}
 use Rattle.std.proofs.lemmas.Bool.{cases_lt, le-leb, lt-leb, leb-true, leb-false}
-use Rattle.st_collections.specs.SequenceRows.{Room, grown_in}
+use Rattle.st_collections.specs.SequenceRows.{Room, grown_in, grown_to}
 
 abbrev pick : Bool → Room → Room → Room
 pick b r x = elim b [ true ↦ r | false ↦ x ]
@@ -99,3 +99,8 @@ room_counted m room doubled room' h e f = omega arith
 
 pub cells_counted : (m room cells cells' : ℕ) → room ≤ m → cells' ≡ min (cells + room) m → room ≤ cells'
 cells_counted m room cells cells' h e = omega arith
+
+-- room that is enough stays
+pub grown_none : (size room : ℕ) → size ≤ room → grown_to size room ≡ record { elements = room; cells = 0 }
+unfolding grown_to
+grown_none size room h = grown_done size size room 0 h
