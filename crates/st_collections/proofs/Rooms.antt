@@ -104,3 +104,18 @@ cells_counted m room cells cells' h e = omega arith
 pub grown_none : (size room : ℕ) → size ≤ room → grown_to size room ≡ record { elements = room; cells = 0 }
 unfolding grown_to
 grown_none size room h = grown_done size size room 0 h
+
+holds_case : (b : Bool) (size : ℕ) (r x : Room) → (b ≡ true → size ≤ r.elements) → (b ≡ false → size ≤ x.elements) → size ≤ (pick b r x).elements
+holds_case true size r x h k = h refl
+holds_case false size r x h k = k refl
+
+grown_holds : (fuel size room cells : ℕ) → size ≤ room + fuel → size ≤ (grown_in fuel size room cells).elements
+grown_holds zero size room cells h = omega arith
+grown_holds (suc fuel) size room cells h =
+    holds_case (nat_le size room) size (record { elements = room; cells = cells }) (grown_in fuel size (max 4 (2 * room)) (cells + max 4 (2 * room))) (λ e. leb-true size room e)
+    (λ e. grown_holds fuel size (max 4 (2 * room)) (cells + max 4 (2 * room)) (omega (arith, leb-false size room e)))
+
+-- the room holds so many
+pub grown_to_holds : (size room : ℕ) → size ≤ (grown_to size room).elements
+unfolding grown_to
+grown_to_holds size room = grown_holds size size room 0 (omega arith)
