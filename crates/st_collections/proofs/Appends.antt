@@ -1,9 +1,9 @@
 -- Elements of a collection written behind those of an object.
-use Rattle.std.proofs.Common.{Ok, Err, ◌≡◌, ℕ, zero, suc, ◌+◌, ◌-◌, ◌^◌, ◌<◌, ◌≤◌, ◌⊎◌, inl, inr, Bool, true, false, List, [], ◌∷◌, ◌++◌, map, length, get_or, set, take, replicate, nat_eq, nat_le, refl, ap, sym, ◌∙◌, arith, rules, if◌then◌else◌}
+use Rattle.std.proofs.Common.{Err, ◌≡◌, ℕ, zero, suc, ◌+◌, ◌-◌, ◌^◌, ◌<◌, ◌≤◌, ◌⊎◌, inl, inr, true, List, ◌++◌, map, length, set, replicate, nat_le, refl, ap, sym, ◌∙◌, arith, rules}
 use Rattle.std.specs.List.{range_with_len}
 use Rattle.std.proofs.Math.Nat.{div-one, one-mul}
 use Rattle.std.proofs.lemmas.Bool.{cases_eq, le-leb}
-use Rattle.std.proofs.lemmas.List.{append-nil, set-append_right, take_all, get_or_append_left, get_or-set_other, length-append, length-replicate}
+use Rattle.std.proofs.lemmas.List.{set-append_right, take_all, get_or_append_left, get_or-set_other, length-append, length-replicate}
 use Rattle.std.proofs.lemmas.List.FromFn.{length-map-range_with_len}
 use Rattle.object_heap.specs.declared.value.Value.{Value}
 use Rattle.object_heap.specs.declared.value.Value.TheVariants.{Nil, True, False, Integer, Character, Symbol, Class, Meta, Transcript, Object}
@@ -62,7 +62,7 @@ size_more : (class : ℕ) (xs : List Value) (bytes : List ℕ) → class ≡ ord
 size_more class xs bytes e = rw e refl
 
 read_object : (s : Store) (n m : ℕ) (ys : List Value) (i : ℕ) → (m ≡ n) ⊎ (m ≡ n → ⊥) → IsOpen s n → n < length s.objects → (m ≡ n → i < length (object_at n s).slots) →
-  element_at (object_at m (slots_set n ((object_at n s).slots ++ ys) s)).class (object_at m (slots_set n ((object_at n s).slots ++ ys) s)).slots (object_at m (slots_set n ((object_at n s).slots ++ ys) s)).bytes i ≡ element_at (object_at m s).class (object_at m s).slots (object_at m s).bytes i
+    element_at (object_at m (slots_set n ((object_at n s).slots ++ ys) s)).class (object_at m (slots_set n ((object_at n s).slots ++ ys) s)).slots (object_at m (slots_set n ((object_at n s).slots ++ ys) s)).bytes i ≡ element_at (object_at m s).class (object_at m s).slots (object_at m s).bytes i
 read_object s n m ys i (inl e) h stands low =
     rw (e, object_at_set n (with_slots ((object_at n s).slots ++ ys) (object_at n s)) s stands)
     (read_more (object_at n s).class (object_at n s).slots ys (object_at n s).bytes i h.ordered (low e))
@@ -86,8 +86,8 @@ read_beside p s n (Meta m) ys i h stands low = refl
 read_beside p s n Transcript ys i h stands low = refl
 
 size_object : (s : Store) (n m : ℕ) (ys : List Value) → (m ≡ n) ⊎ (m ≡ n → ⊥) → IsOpen s n → n < length s.objects →
-  (size_at (object_at m (slots_set n ((object_at n s).slots ++ ys) s)).class (object_at m (slots_set n ((object_at n s).slots ++ ys) s)).slots (object_at m (slots_set n ((object_at n s).slots ++ ys) s)).bytes ≡ length (object_at n s).slots + length ys)
-  ⊎ (size_at (object_at m (slots_set n ((object_at n s).slots ++ ys) s)).class (object_at m (slots_set n ((object_at n s).slots ++ ys) s)).slots (object_at m (slots_set n ((object_at n s).slots ++ ys) s)).bytes ≡ size_at (object_at m s).class (object_at m s).slots (object_at m s).bytes)
+    (size_at (object_at m (slots_set n ((object_at n s).slots ++ ys) s)).class (object_at m (slots_set n ((object_at n s).slots ++ ys) s)).slots (object_at m (slots_set n ((object_at n s).slots ++ ys) s)).bytes ≡ length (object_at n s).slots + length ys)
+    ⊎ (size_at (object_at m (slots_set n ((object_at n s).slots ++ ys) s)).class (object_at m (slots_set n ((object_at n s).slots ++ ys) s)).slots (object_at m (slots_set n ((object_at n s).slots ++ ys) s)).bytes ≡ size_at (object_at m s).class (object_at m s).slots (object_at m s).bytes)
 size_object s n m ys (inl e) h stands =
     inl (rw (e, object_at_set n (with_slots ((object_at n s).slots ++ ys) (object_at n s)) s stands, size_more (object_at n s).class ((object_at n s).slots ++ ys) (object_at n s).bytes h.ordered) (length-append (object_at n s).slots ys))
 size_object s n m ys (inr k) h stands =
@@ -174,7 +174,7 @@ open_room s n room h fits =
 
 -- the collection with all of them
 with_all_more : (p : Program) (s : Store) (n count size : ℕ) (v : Value) → IsOpen s n → count ≡ size_of p s v → size ≡ length (object_at n s).slots + count →
-  with_elements s n ((object_at n s).slots ++ elements p s v) ≡ record { cells = (grown_to size (object_at n s).capacity).cells; store = object_set n (put_room (object_at n s) ((object_at n s).slots ++ elements p s v) (grown_to size (object_at n s).capacity).elements) s }
+    with_elements s n ((object_at n s).slots ++ elements p s v) ≡ record { cells = (grown_to size (object_at n s).capacity).cells; store = object_set n (put_room (object_at n s) ((object_at n s).slots ++ elements p s v) (grown_to size (object_at n s).capacity).elements) s }
 unfolding with_elements
 with_all_more p s n count size v h ec es =
     let o = object_at n s in
@@ -195,8 +195,8 @@ room_made m m1 cells s e paid = e ∙ (rw (le-leb (m.used + cells) m.limit paid)
 
 -- what is read of it then
 pub ready_all : (p : Program) (m m1 : Memory) (n count size : ℕ) (v : Value) → IsOpen m.store n → size ≡ length (object_at n m.store).slots + count →
-  m1 ≡ charged (grown_to size (object_at n m.store).capacity).cells (with_room n (grown_to size (object_at n m.store).capacity).elements m.store) m → m.used + (grown_to size (object_at n m.store).capacity).cells ≤ m.limit →
-  (length (object_at n m1.store).slots + count ≤ (object_at n m1.store).capacity) × (size_of p m1.store v ≡ size_of p m.store v)
+    m1 ≡ charged (grown_to size (object_at n m.store).capacity).cells (with_room n (grown_to size (object_at n m.store).capacity).elements m.store) m → m.used + (grown_to size (object_at n m.store).capacity).cells ≤ m.limit →
+    (length (object_at n m1.store).slots + count ≤ (object_at n m1.store).capacity) × (size_of p m1.store v ≡ size_of p m.store v)
 ready_all p m m1 n count size v h es e paid =
     let room = grown_to size (object_at n m.store).capacity in
     let stands = stands_open m.store n h in
@@ -206,9 +206,9 @@ ready_all p m m1 n count size v h es e paid =
     ((rw (roomy_object n room.elements m.store stands fits) (omega arith)), size_room p m.store n room.elements v stands fits)
 
 pub all_memory : (p : Program) (m m1 m2 : Memory) (n count size : ℕ) (v : Value) → IsOpen m.store n → is_collection m.store v ≡ true → count ≡ size_of p m.store v → size ≡ length (object_at n m.store).slots + count →
-  m1 ≡ charged (grown_to size (object_at n m.store).capacity).cells (with_room n (grown_to size (object_at n m.store).capacity).elements m.store) m → m.used + (grown_to size (object_at n m.store).capacity).cells ≤ m.limit →
-  m2 ≡ with_store (slots_set n ((object_at n m1.store).slots ++ some_elements p m1.store v 1 count) m1.store) m1 →
-  m2 ≡ memory_of (all_added p m.store n v) m
+    m1 ≡ charged (grown_to size (object_at n m.store).capacity).cells (with_room n (grown_to size (object_at n m.store).capacity).elements m.store) m → m.used + (grown_to size (object_at n m.store).capacity).cells ≤ m.limit →
+    m2 ≡ with_store (slots_set n ((object_at n m1.store).slots ++ some_elements p m1.store v 1 count) m1.store) m1 →
+    m2 ≡ memory_of (all_added p m.store n v) m
 unfolding elements
 all_memory p m m1 m2 n count size v h is ec es e1 paid e2 =
     let s = m.store in
@@ -227,15 +227,15 @@ all_memory p m m1 m2 n count size v h is ec es e1 paid e2 =
     f5 ∙ (rw (is, with_all_more p m.store n count size v h ec es, le-leb (m.used + room.cells) m.limit paid) refl)
 
 pub all_answer : (p : Program) (m : Memory) (n count size : ℕ) (v : Value) → IsOpen m.store n → is_collection m.store v ≡ true → count ≡ size_of p m.store v → size ≡ length (object_at n m.store).slots + count →
-  m.used + (grown_to size (object_at n m.store).capacity).cells ≤ m.limit → Built.Value v ≡ answer_of (all_added p m.store n v) m
+    m.used + (grown_to size (object_at n m.store).capacity).cells ≤ m.limit → Built.Value v ≡ answer_of (all_added p m.store n v) m
 all_answer p m n count size v h is ec es paid =
     rw (is, with_all_more p m.store n count size v h ec es, le-leb (m.used + (grown_to size (object_at n m.store).capacity).cells) m.limit paid) refl
 
 -- where there was no room
 pub all_full_memory : (p : Program) (stop : HeapStop) (m m1 : Memory) (n count size : ℕ) (v : Value) → IsOpen m.store n → is_collection m.store v ≡ true → count ≡ size_of p m.store v → size ≡ length (object_at n m.store).slots + count →
-  m1 ≡ if_out {A = Unit {0}} (Err stop) m (charged (grown_to size (object_at n m.store).capacity).cells (with_room n (grown_to size (object_at n m.store).capacity).elements m.store) m) →
-  Err stop ≡ if_out {A = Unit {0}} (Err stop) (Err stop) (room_answer (grown_to size (object_at n m.store).capacity).cells m) →
-  m1 ≡ unless_out (stop_answer stop) m (memory_of (all_added p m.store n v) m)
+    m1 ≡ if_out {A = Unit {0}} (Err stop) m (charged (grown_to size (object_at n m.store).capacity).cells (with_room n (grown_to size (object_at n m.store).capacity).elements m.store) m) →
+    Err stop ≡ if_out {A = Unit {0}} (Err stop) (Err stop) (room_answer (grown_to size (object_at n m.store).capacity).cells m) →
+    m1 ≡ unless_out (stop_answer stop) m (memory_of (all_added p m.store n v) m)
 all_full_memory p stop m m1 n count size v h is ec es e a =
     let o = object_at n m.store in
     let room = grown_to size (object_at n m.store).capacity in
@@ -243,8 +243,8 @@ all_full_memory p stop m m1 n count size v h is ec es e a =
     (full_memory stop m m1 room.cells (with_room n room.elements m.store) (object_set n (put_room o (o.slots ++ elements p m.store v) room.elements) m.store) v e a)
 
 pub all_full_answer : (p : Program) (stop : HeapStop) (m : Memory) (n count size : ℕ) (v : Value) → IsOpen m.store n → is_collection m.store v ≡ true → count ≡ size_of p m.store v → size ≡ length (object_at n m.store).slots + count →
-  Err stop ≡ if_out {A = Unit {0}} (Err stop) (Err stop) (room_answer (grown_to size (object_at n m.store).capacity).cells m) →
-  stop_answer stop ≡ unless_out (stop_answer stop) (stop_answer stop) (answer_of (all_added p m.store n v) m)
+    Err stop ≡ if_out {A = Unit {0}} (Err stop) (Err stop) (room_answer (grown_to size (object_at n m.store).capacity).cells m) →
+    stop_answer stop ≡ unless_out (stop_answer stop) (stop_answer stop) (answer_of (all_added p m.store n v) m)
 all_full_answer p stop m n count size v h is ec es a =
     let o = object_at n m.store in
     let room = grown_to size (object_at n m.store).capacity in

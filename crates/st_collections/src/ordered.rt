@@ -76,13 +76,7 @@ fn add_first<H: Heap>(heap: &mut H, object: u32, value: Value) -> Built
 }
 
 // Writes elements of a collection behind those that stand, for which there is room.
-fn append_elements<H: Heap>(
-    heap: &mut H,
-    names: &Names,
-    object: u32,
-    collection: Value,
-    count: u32,
-)
+fn append_elements<H: Heap>(heap: &mut H, names: &Names, object: u32, collection: Value, count: u32)
     requires open { IsOpen (H.meaning heap.old).store object }
     requires room { let o = object_at object (H.meaning heap.old).store in length o.slots + count ≤ o.capacity }
     requires fits { length (object_at object (H.meaning heap.old).store).slots + count < 2 ^ 32 }

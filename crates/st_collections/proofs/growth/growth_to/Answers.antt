@@ -1,6 +1,6 @@
-use Rattle.std.proofs.Common.{◌≡◌, ◌∙◌, ◌⊎◌, inl, inr, ◌-◌, ◌*◌, ◌+◌, ◌^◌, ◌<◌, ◌≤◌, min, max, ap, arith, refl, rules}
+use Rattle.std.proofs.Common.{◌≡◌, ◌∙◌, inl, inr, ◌-◌, ◌*◌, ◌+◌, ◌^◌, ◌≤◌, min, max, ap, arith, refl, rules}
 use Rattle.st_collections.specs.Answers.{told}
-use Rattle.st_collections.specs.SequenceRows.{Room, grown_in}
+use Rattle.st_collections.specs.SequenceRows.{Room}
 use Rattle.st_collections.proofs.Rooms.{grown_enough, grown_step, room_counted, cells_counted}
 use Rattle.st_collections.proofs.growth.growth_to.Goals as goal
 

@@ -1,4 +1,4 @@
-use Rattle.std.proofs.Common.{◌≡◌, ◌≤◌, ◌<◌, ◌-◌, ◌⊎◌}
+use Rattle.std.proofs.Common.{◌≡◌, ◌≤◌, ◌-◌, ◌⊎◌}
 use Rattle.st_collections.specs.Answers.{told}
 use Rattle.st_collections.specs.SequenceRows.{grown_in}
 use Rattle.st_collections.proofs.growth.growth_to.Given as goal

@@ -1,4 +1,4 @@
-use Rattle.std.proofs.Common.{◌≡◌, ◌≤◌, ◌+◌, refl, arith}
+use Rattle.std.proofs.Common.{◌≤◌, ◌+◌, refl, arith}
 use Rattle.std.proofs.lemmas.Bool.{le-leb}
 use Rattle.object_heap.specs.Store.{object_at}
 use Rattle.st_collections.proofs.Gaps.{no_growth}

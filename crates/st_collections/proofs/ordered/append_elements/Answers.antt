@@ -1,13 +1,11 @@
 use Rattle.std.proofs.Common.{◌≡◌, ◌∙◌, ◌+◌, ◌<◌, ap, arith}
 use Rattle.object_heap.specs.Charges.{with_store}
 use Rattle.object_heap.specs.Store.{Store}
-use Rattle.object_heap.specs.declared.value.Value.{Value}
 use Rattle.st_collections.specs.Answers.{program_of}
-use Rattle.st_collections.specs.Kinds.{element}
 use Rattle.st_collections.specs.Ordered.{slots_set}
 use Rattle.st_collections.proofs.Gaps.{stands_open}
 use Rattle.st_collections.proofs.Objects.{so_far}
-use Rattle.st_collections.proofs.Appends.{added_at, appended, appended_more, appended_all, index_beside, read_beside}
+use Rattle.st_collections.proofs.Appends.{added_at, appended_more, appended_all, index_beside, read_beside}
 use Rattle.st_collections.proofs.ordered.append_elements.Goals as goal
 
 pub element_now-value-requires-clause-bound : goal.element_now-value-requires-clause-bound
@@ -34,7 +32,7 @@ loop-place-preserved g c =
     ∙ read_beside p m.store c.args.object c.args.collection (so_far (added_at p m.store c.args.collection) c.args.count c.loop-place.place) c.loop-place.place c.requires.open stands (omega (arith, c.requires.within)) in
     record {
       memory = (rw c.loop-place.invariant.memory at c.put.ensures.written)
-      ∙ ap (λ (s : Store). with_store s m) (appended_more p m.store c.args.object c.args.collection c.element_now-value.result c.args.count c.loop-place.place c.length-length.result stands low c.length-length.ensures read);
+          ∙ ap (λ (s : Store). with_store s m) (appended_more p m.store c.args.object c.args.collection c.element_now-value.result c.args.count c.loop-place.place c.length-length.result stands low c.length-length.ensures read);
       literals = c.put.ensures.literals ∙ c.loop-place.invariant.literals;
     }
 
