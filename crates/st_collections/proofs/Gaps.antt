@@ -1,5 +1,5 @@
 -- A gap that moves through the slots of an object, one place at a time.
-use Rattle.std.proofs.Common.{Ok, Err, ◌≡◌, ℕ, zero, suc, ◌+◌, ◌-◌, ◌*◌, ◌<◌, ◌≤◌, Bool, true, false, List, [], ◌∷◌, ◌++◌, length, get_or, set, take, drop, replicate, nat_lt, nat_le, max, inl, inr, refl, ap, sym, ◌∙◌, arith, add-zero, zero-add, add-one, if◌then◌else◌}
+use Rattle.std.proofs.Common.{Ok, Err, ◌≡◌, ℕ, suc, ◌+◌, ◌-◌, ◌*◌, ◌<◌, ◌≤◌, Bool, true, false, List, [], ◌∷◌, ◌++◌, length, get_or, set, take, drop, replicate, nat_lt, nat_le, max, inl, inr, refl, ap, sym, ◌∙◌, arith, add-zero, zero-add, add-one, if◌then◌else◌}
 use Rattle.std.specs.List.{insert, remove}
 use Rattle.std.proofs.lemmas.Bool.{cases_lt, leb-true, le-leb, ltb-true, ltb-false}
 use Rattle.std.proofs.Math.Nat.{div-one, one-mul}
