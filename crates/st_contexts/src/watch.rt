@@ -42,6 +42,8 @@ pub enum Event {
 
 /// Who is told of events.
 pub trait Watch {
+    ghost use Rattle.st_contexts.specs.declared.watch.Event.{Event};
+
     /// The events that it was told, where it tells them.
     ghost seen: { Self → Option (List Event) };
 

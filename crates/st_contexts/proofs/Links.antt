@@ -1,0 +1,2 @@
+-- The environment that a link names.
+use Rattle.std.proofs.Common.{refl}
