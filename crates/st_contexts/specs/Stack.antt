@@ -148,8 +148,12 @@ mark_of n acts = option_map mark_in (kept_of n acts)
 abbrev pub env_of : ℕ → List Standing → Option Env
 env_of n acts = option_map (λ a. a.env) (standing_in n acts)
 
+abbrev pub operands_in : Option Standing → List Value
+operands_in None = []
+operands_in (Some a) = a.operands
+
 abbrev pub operands_of : ℕ → List Standing → List Value
-operands_of n acts = elim (standing_in n acts) [ None ↦ [] | Some a ↦ a.operands ]
+operands_of n acts = operands_in (standing_in n acts)
 
 -- ---- activations by their place, the innermost being 0
 
