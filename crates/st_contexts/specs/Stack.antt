@@ -173,14 +173,17 @@ entry_at (Some a) = entry_of a.number a.kept a.env
 abbrev pub entry_in : (link : ℕ) → List Standing → Option Entry
 entry_in link acts = if nat_eq link 0 then None else entry_at (standing_in link acts)
 
+-- an entry before others; nothing without it
+abbrev pub before : Option Entry → List Entry → List Entry
+before None entries = []
+before (Some entry) entries = entry ∷ entries
+
 -- the environment that a link names among these activations: its entry and, among those outside it, the environment of the entry's own link
 unfoldable pub env_in : List Standing → (link : ℕ) → List Entry
 env_in [] link = []
 env_in (a ∷ acts) zero = []
 env_in (a ∷ acts) (suc link) =
-    if nat_eq (suc link) a.number
-    then elim (entry_of a.number a.kept a.env) [ None ↦ [] | Some entry ↦ entry ∷ env_in acts a.env.0 ]
-    else env_in acts (suc link)
+    if nat_eq (suc link) a.number then before (entry_of a.number a.kept a.env) (env_in acts a.env.0) else env_in acts (suc link)
 
 -- an entry that stands with the environment behind it, which its link names if it names an activation further out
 abbrev pub with_outside : List Standing → Option Entry → List Entry

@@ -122,22 +122,39 @@ pub enum Activation {
         handler: Value,
     },
     /// An `ensure:` whose termination block is still to run.
-    EnsureOn { block: Value },
+    EnsureOn {
+        block: Value,
+    },
     /// An `ifCurtailed:` whose termination block is still to run.
-    CurtailOn { block: Value },
+    CurtailOn {
+        block: Value,
+    },
     /// A termination block runs, and this is done after it.
-    ActionOff { held: Outcome },
+    ActionOff {
+        held: Outcome,
+    },
     /// A signal of the exception with this object number.
-    Signal { exception: u32 },
+    Signal {
+        exception: u32,
+    },
     /// A handler or a default action runs.
-    HandlerRun { turn: Turn },
+    HandlerRun {
+        turn: Turn,
+    },
     /// The point at which `outer` is resumed.
     Outer,
     /// Waits for what `isResumable` answers to the turn with this number.
-    ResumeWait { wait: Wait, number: u64, turn: Turn },
+    ResumeWait {
+        wait: Wait,
+        number: u64,
+        turn: Turn,
+    },
     /// Waits for what `handles:` answers about the entry with this number. The activation's
     /// environment is the one behind the entry.
-    HandlesWait { search: SearchState, entry: u64 },
+    HandlesWait {
+        search: SearchState,
+        entry: u64,
+    },
     Loop(LoopState),
 }
 

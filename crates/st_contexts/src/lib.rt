@@ -4,8 +4,8 @@
 mod activation;
 mod contexts;
 mod outcome;
-//TEST1
-//TEST2
+#[cfg(test)]
+mod tests;
 mod watch;
 
 pub use activation::{
