@@ -1,0 +1,5 @@
+mod Walked
+mod Classes
+mod Absent
+mod Plain
+mod Searches

@@ -1,0 +1,12 @@
+// Handlers: what a search in an environment comes to, and which turn of an exception is the innermost. A receiver's lookup, for any value, stands here too.
+#![tactic(auto)]
+
+mod handlers;
+mod lookups;
+//TEST1
+//TEST2
+mod turns;
+
+pub use handlers::{Search, find_handler, fits, is_plain};
+pub use lookups::{found_for, inherits};
+pub use turns::{FoundTurn, innermost_turn, is_live};
