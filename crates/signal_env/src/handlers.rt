@@ -1,11 +1,11 @@
 // The search for the handler of an exception.
-ghost use Rattle.std.specs.Prelude.{◌≡◌, ◌<◌, length, codes, drop};
+ghost use Rattle.std.specs.Prelude.{◌≡◌, ◌<◌, length, codes};
 ghost use Rattle.st_code.specs.Program.{number_of};
 ghost use Rattle.st_code.specs.Lookup as code;
 ghost use Rattle.object_heap.specs.Store.{object_at};
 ghost use Rattle.program_image.specs.Images.{image_names, image_program};
 ghost use Rattle.st_contexts.specs.Stack.{env_in};
-ghost use Rattle.signal_env.specs.Searches.{search_in};
+ghost use Rattle.signal_env.specs.Searches.{class_fits, some_fits, search_in};
 
 use crate::lookups::{found_for, inherits};
 use object_heap::{Heap, Value};
@@ -63,23 +63,26 @@ pub fn is_plain<H: Heap>(heap: &H, image: &Image, handles: u32, selector: Value)
 {
     match found_for(image, heap, selector, handles) {
         Some(Found::BuiltIn(_)) => true,
-        _ => false,
+        Some(Found::User(_)) => false,
+        None => false,
     }
 }
 
 /// Whether a plain selector is the class of an exception, one above it, or a set that has one.
+#[tactic(auto, unfolding(st_code::specs::Lookup::fits))]
 pub fn fits<H: Heap>(heap: &H, image: &Image, selector: Value, class: u32) -> bool
     ensures { result ≡ code.fits (image_program image.now) (H.meaning heap.now).store selector class }
 {
     match selector {
+        Value::Class(ancestor) => inherits(image, class, ancestor),
         Value::Object(set) => fits_some(heap, image, set, class),
-        _ => fits_class(image, selector, class),
+        _ => false,
     }
 }
 
 // Whether a slot of an object is the class or one above it.
 fn fits_some<H: Heap>(heap: &H, image: &Image, set: u32, class: u32) -> bool
-    ensures { result ≡ code.fits_some (image_program image.now) class (object_at set (H.meaning heap.now).store).slots }
+    ensures { result ≡ some_fits (image_program image.now) class (object_at set (H.meaning heap.now).store).slots }
 {
     for slot in 0..heap.length(set) {
         if fits_class(image, heap.get(set, slot), class) {
@@ -89,10 +92,10 @@ fn fits_some<H: Heap>(heap: &H, image: &Image, set: u32, class: u32) -> bool
     false
 }
 
-fn fits_class(image: &Image, selector: Value, class: u32) -> bool
-    ensures { result ≡ code.fits_class (image_program image.now) class selector }
+fn fits_class(image: &Image, value: Value, class: u32) -> bool
+    ensures { result ≡ class_fits (image_program image.now) class value }
 {
-    match selector {
+    match value {
         Value::Class(ancestor) => inherits(image, class, ancestor),
         _ => false,
     }
