@@ -1,17 +1,15 @@
 -- A class that isn't there: it has no superclass, no methods and no built-in messages.
-use Rattle.std.proofs.Common.{◌≡◌, ℕ, zero, suc, ◌+◌, ◌<◌, ◌≤◌, Bool, true, false, ◌&&◌, List, [], ◌∷◌, ◌++◌, map, length, get_or, nat_eq, nat_lt, Option, Some, None, refl, ap, sym, ◌∙◌, arith}
+use Rattle.std.proofs.Common.{◌≡◌, ℕ, suc, ◌<◌, ◌≤◌, Bool, true, false, ◌&&◌, List, [], ◌∷◌, ◌++◌, map, length, nat_eq, nat_lt, Option, Some, None, refl, ap, sym, ◌∙◌, arith}
 use Rattle.std.specs.Option.{option_map}
 use Rattle.std.proofs.lemmas.List.{get_or_past}
 use Rattle.std.proofs.lemmas.Bool.{ne_eqb, ltb-true}
-use Rattle.std.proofs.Math.ListN.{length-map}
 use Rattle.st_tree.specs.declared.units.Unit.{Unit}
 use Rattle.st_code.specs.Texts.{Text}
-use Rattle.st_code.specs.Program.{Program, MethodRow, Side, OfInstance, OfClass, OfMeta, same_side, class_at, name_at}
-use Rattle.st_code.specs.Named.{NamedMethod, NamedUnit, ClassUnit, GlobalUnit, PoolVariableUnit, InitializerUnit, PoolInitializerUnit, ProgramUnit, MethodUnit, ClassMethodUnit}
+use Rattle.st_code.specs.Program.{MethodRow, Side, OfInstance, OfClass, OfMeta, same_side, class_at, name_at}
+use Rattle.st_code.specs.Named.{NamedUnit, ClassUnit, GlobalUnit, PoolVariableUnit, InitializerUnit, PoolInitializerUnit, ProgramUnit, MethodUnit, ClassMethodUnit}
 use Rattle.st_code.specs.Written.{named_unit}
-use Rattle.st_code.specs.Resolved.{Names, class_in, class_names_at, no_names}
-use Rattle.st_code.specs.Definitions.{class_row, or_zero}
-use Rattle.st_code.specs.Messages.{Row}
+use Rattle.st_code.specs.Resolved.{Names, class_in, no_names}
+use Rattle.st_code.specs.Definitions.{or_zero}
 use Rattle.st_code.specs.BuiltIns.{Section, built_in_messages, is_section, or_else, row_in, row_in_sections, row_at, object_class, class_class}
 use Rattle.st_code.specs.Lookup.{Level, level, superclasses, holds, inherits, walk, method_at, found_at, found_in, lookup, Found, UserMethod, BuiltIn}
 use Rattle.program_image.specs.Images.{image_names, image_methods, image_program, method_of, method_here, with_method, methods_from}

@@ -1,14 +1,13 @@
 -- The classes of an image begin with the built-in ones.
-use Rattle.std.proofs.Common.{◌≡◌, ℕ, zero, suc, ◌+◌, ◌<◌, ◌≤◌, List, [], ◌∷◌, ◌++◌, map, length, get_or, Option, Some, None, refl, ap, sym, ◌∙◌, append_assoc, arith, length-append}
+use Rattle.std.proofs.Common.{◌≡◌, ℕ, ◌<◌, ◌≤◌, List, [], ◌∷◌, ◌++◌, map, length, Some, None, refl, ap, sym, ◌∙◌, append_assoc, arith, length-append}
 use Rattle.std.proofs.lemmas.List.{append-nil, get_or_append_left}
 use Rattle.st_tree.specs.declared.units.Unit.{Unit}
-use Rattle.st_code.specs.Texts.{Text}
-use Rattle.st_code.specs.Program.{Program, class_at}
+use Rattle.st_code.specs.Program.{class_at}
 use Rattle.st_code.specs.Named.{NamedClass, NamedUnit, ClassUnit, GlobalUnit, PoolVariableUnit, InitializerUnit, PoolInitializerUnit, ProgramUnit, MethodUnit, ClassMethodUnit}
 use Rattle.st_code.specs.Written.{named_units}
 use Rattle.st_code.specs.Resolved.{ClassNames, Names, no_names, class_in, class_names_at}
 use Rattle.st_code.specs.Definitions.{class_over, declared_unit, declared_units, names_of, built_in_names, or_zero}
-use Rattle.st_code.specs.BuiltIns.{built_in_classes, built_in_class_rows}
+use Rattle.st_code.specs.BuiltIns.{built_in_class_rows}
 use Rattle.st_code.specs.Lookup.{superclasses}
 use Rattle.program_image.specs.Spelled.{names_in}
 use Rattle.program_image.specs.Images.{image_names, image_program}

@@ -1,12 +1,12 @@
 -- Whether a selector answers `handles:` by a built-in message, and whether it fits.
-use Rattle.std.proofs.Common.{◌≡◌, ℕ, zero, suc, ◌+◌, ◌≤◌, Bool, true, false, List, [], ◌∷◌, length, drop, get_or, codes, Option, Some, None, refl, ap, sym, ◌∙◌, subst, arith, ◌<◌, if◌then◌else◌}
+use Rattle.std.proofs.Common.{◌≡◌, ℕ, ◌+◌, ◌≤◌, Bool, true, false, List, [], ◌∷◌, length, drop, get_or, codes, Option, Some, None, refl, ap, sym, ◌∙◌, subst, ◌<◌, if◌then◌else◌}
 use Rattle.std.proofs.lemmas.List.{drop_all, drop_more}
 use Rattle.std.specs.Option.{option_map}
 use Rattle.object_heap.specs.declared.value.Value.{Value}
 use Rattle.object_heap.specs.declared.value.Value.TheVariants.{Nil, True, False, Integer, Character, Symbol, Class, Meta, Transcript, Object}
-use Rattle.object_heap.specs.Store.{Store, Object as HeapObject, object_at}
+use Rattle.object_heap.specs.Store.{Store, object_at}
 use Rattle.st_code.specs.Program.{Program, number_of}
-use Rattle.st_code.specs.Lookup.{lookup, level_of, is_plain, inherits, fits, Found as RowFound, UserMethod, BuiltIn as BuiltInRow}
+use Rattle.st_code.specs.Lookup.{lookup, level_of, is_plain, inherits, fits}
 use Rattle.signal_env.specs.Searches.{class_fits, some_fits}
 use Rattle.program_image.specs.declared.table.Found.{Found}
 use Rattle.program_image.specs.declared.table.Found.TheVariants as found

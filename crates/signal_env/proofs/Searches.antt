@@ -1,7 +1,6 @@
 -- A search along links, an entry at a time.
-use Rattle.std.proofs.Common.{◌≡◌, ℕ, ◌<◌, ◌≤◌, Bool, true, false, List, [], ◌∷◌, nat_lt, nat_eq, Option, Some, None, refl, ap, sym, ◌∙◌, arith, if◌then◌else◌}
+use Rattle.std.proofs.Common.{◌≡◌, ℕ, ◌<◌, ◌≤◌, Bool, true, false, List, [], ◌∷◌, nat_lt, nat_eq, Option, Some, None, refl, ap, sym, ◌∙◌, if◌then◌else◌}
 use Rattle.std.proofs.lemmas.Bool.{eqb-true, lt-ltb, le-ltb}
-use Rattle.object_heap.specs.declared.value.Value.{Value}
 use Rattle.object_heap.specs.Store.{Store}
 use Rattle.st_code.specs.Program.{Program}
 use Rattle.st_code.specs.Lookup.{is_plain, fits}
@@ -11,7 +10,6 @@ use Rattle.st_contexts.specs.declared.activation.Env.{Env}
 use Rattle.st_contexts.specs.declared.activation.Entry.{Entry}
 use Rattle.st_contexts.specs.Marks.{entry_of}
 use Rattle.st_contexts.specs.Stack.{Standing, standing_in, entry_at, entry_in, env_in, with_outside}
-use Rattle.signal_env.specs.declared.handlers.Search.{Search}
 use Rattle.signal_env.specs.declared.handlers.Search.TheVariants.{Found, Nobody, Ask}
 use Rattle.signal_env.specs.Searches.{search_in}
 

@@ -1,6 +1,5 @@
 -- A walk over what stands, an activation at a time.
-use Rattle.std.proofs.Common.{◌≡◌, ℕ, zero, suc, ◌+◌, ◌≤◌, Bool, true, false, List, [], ◌∷◌, length, drop, Option, Some, None, refl, ap, sym, ◌∙◌, arith, subst, if◌then◌else◌}
-use Rattle.std.proofs.lemmas.List.{drop_all}
+use Rattle.std.proofs.Common.{◌≡◌, ℕ, zero, suc, ◌+◌, true, false, List, [], ◌∷◌, drop, Some, None, refl, ap, sym, ◌∙◌, arith, subst, if◌then◌else◌}
 use Rattle.st_contexts.specs.declared.activation.Numbered.{Numbered}
 use Rattle.st_contexts.specs.Stack.{Standing, numbered, numbered_at}
 use Rattle.signal_env.specs.declared.turns.FoundTurn.{FoundTurn}

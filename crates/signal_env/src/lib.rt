@@ -3,8 +3,8 @@
 
 mod handlers;
 mod lookups;
-//TEST1
-//TEST2
+#[cfg(test)]
+mod tests;
 mod turns;
 
 pub use handlers::{Search, find_handler, fits, is_plain};

@@ -60,7 +60,9 @@ fn signals_at(standing: Numbered, exception: u32) -> bool
     ensures { result ≡ signals_at exception standing }
 {
     match standing.kept {
-        Activation::Signal { exception: signaled } => signaled == exception,
+        Activation::Signal {
+            exception: signaled,
+        } => signaled == exception,
         _ => false,
     }
 }
