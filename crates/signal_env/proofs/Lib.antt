@@ -3,3 +3,4 @@ mod Classes
 mod Absent
 mod Plain
 mod Searches
+pub mod Alike

@@ -2,6 +2,7 @@
 #![tactic(auto)]
 
 mod handlers;
+pub mod law;
 mod lookups;
 #[cfg(test)]
 mod tests;
