@@ -4,3 +4,4 @@ mod Absent
 mod Plain
 mod Searches
 pub mod Alike
+mod Own

@@ -7,7 +7,7 @@ ghost use Rattle.program_image.specs.Images.{image_names, image_program};
 ghost use Rattle.st_contexts.specs.Stack.{env_in};
 ghost use Rattle.signal_env.specs.Searches.{class_fits, some_fits, search_in};
 
-use crate::lookups::{found_for, inherits};
+use crate::lookups::{found_for, inherits, selector_number};
 use object_heap::{Heap, Value};
 use program_image::{Found, Image};
 use st_contexts::{Contexts, Entry, Env};
@@ -25,20 +25,18 @@ pub enum Search {
 }
 
 /// Searches an environment for the handler of an exception of this class, from the innermost entry
-/// outwards (section 5.5). An entry is plain where its selector answers `handles:`, of which the
-/// number is given, by a built-in message.
+/// outwards (section 5.5). An entry is plain where its selector answers `handles:` by a built-in
+/// message. Only entries are looked at.
 pub fn find_handler<H: Heap>(
     contexts: &Contexts,
     heap: &H,
     image: &Image,
-    handles: u32,
     env: Env,
     class: u32,
 ) -> Search
-    requires selector { handles ≡ number_of (image_program image.now) (codes "handles:") }
-    requires there { handles < length (image_names image.now).names }
     ensures { result ≡ search_in (image_program image.now) (H.meaning heap.now).store class (env_in contexts.now.acts env.0) }
 {
+    let handles = selector_number(image, b"handles:");
     let mut link = env;
     while let Some(entry) = contexts.entry(link) {
         if !is_plain(heap, image, handles, entry.selector) {
@@ -55,8 +53,8 @@ pub fn find_handler<H: Heap>(
     Search::Nobody
 }
 
-/// Whether a selector of `on:do:` answers `handles:` by a built-in message.
-pub fn is_plain<H: Heap>(heap: &H, image: &Image, handles: u32, selector: Value) -> bool
+// Whether a selector of `on:do:` answers `handles:` by a built-in message.
+fn is_plain<H: Heap>(heap: &H, image: &Image, handles: u32, selector: Value) -> bool
     requires selector { handles ≡ number_of (image_program image.now) (codes "handles:") }
     requires there { handles < length (image_names image.now).names }
     ensures { result ≡ code.is_plain (image_program image.now) (H.meaning heap.now).store selector }

@@ -1,4 +1,4 @@
-// Handlers: what a search in an environment comes to, and which turn of an exception is the innermost. A receiver's lookup, for any value, stands here too.
+// Handlers: what a search in an environment comes to, and which turn of an exception is the innermost. A receiver's lookup, for any value, stands here too, and the numbers of the selectors that every image has.
 #![tactic(auto)]
 
 mod handlers;
@@ -8,6 +8,6 @@ mod lookups;
 mod tests;
 mod turns;
 
-pub use handlers::{Search, find_handler, fits, is_plain};
-pub use lookups::{found_for, inherits};
+pub use handlers::{Search, find_handler, fits};
+pub use lookups::{found_for, inherits, selector_number};
 pub use turns::{FoundTurn, innermost_turn, is_live};

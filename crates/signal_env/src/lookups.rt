@@ -1,8 +1,10 @@
 // What a receiver finds for a selector, whatever value the receiver is.
 ghost use Rattle.std.specs.Prelude.{◌≡◌, ◌<◌, length};
 ghost use Rattle.std.specs.Option.{option_map};
+ghost use Rattle.st_code.specs.Program.{number_of};
 ghost use Rattle.st_code.specs.Lookup as code;
 ghost use Rattle.program_image.specs.Images.{image_names, image_program, on_side, as_row};
+ghost use Rattle.signal_env.specs.Own.{IsSelector};
 
 use object_heap::{Heap, Value};
 use program_image::{Found, Image, Side};
@@ -28,6 +30,18 @@ const TRANSCRIPT_WRITER: u32 = 22;
 struct Level {
     side: Side,
     class: u32,
+}
+
+/// The number of the selector of a built-in message. Every image has it.
+pub fn selector_number(image: &Image, selector: &[u8]) -> u32
+    requires { IsSelector selector.now }
+    ensures number { result ≡ number_of (image_program image.now) selector.now }
+    ensures there { result < length (image_names image.now).names }
+{
+    match image.names().find(selector) {
+        Some(number) => number,
+        None => unreachable!(),
+    }
 }
 
 /// The method or built-in message that a receiver finds for a selector (ANSI NCITS 319, 3.3), in

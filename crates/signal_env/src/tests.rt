@@ -1,9 +1,9 @@
 // Which selectors fit which classes, what receivers find, and which turn is the innermost.
-use super::{FoundTurn, fits, found_for, innermost_turn, is_live};
+use super::{FoundTurn, Search, find_handler, fits, found_for, innermost_turn, is_live};
 use object_heap::{Heap, ListHeap, Value};
 use program_image::{Found, Image, build};
 use st_base::built_in_messages;
-use st_contexts::{Activation, Contexts, Env, Turn};
+use st_contexts::{Activation, Contexts, Entry, Env, Turn};
 use st_tree::units::{Definition, UnitList};
 use std::test::Fail;
 
@@ -55,6 +55,48 @@ fn a_receiver_finds_the_messages_of_its_classes(rt: HostRuntime) -> Result<(), F
     ];
     for (receiver, selector, expected) in rows {
         assert_eq!(rt; owner(&image, &heap, receiver, selector), expected);
+    }
+    Ok(())
+}
+
+fn protect(selector: Value) -> Activation {
+    Activation::Protect {
+        receiver: Value::Nil,
+        selector,
+        handler: Value::True,
+    }
+}
+
+fn entry(protect: u64, selector: Value, outside: u64) -> Entry {
+    Entry {
+        protect,
+        selector,
+        handler: Value::True,
+        outside: Env(outside),
+    }
+}
+
+#[test]
+fn a_search_goes_outwards_to_the_first_question(rt: HostRuntime) -> Result<(), Fail> {
+    let units = UnitList::new(rt.alloc());
+    let image = build(rt.alloc(), Definition { units })?;
+    let heap = ListHeap::new(rt.alloc(), 0)?;
+    let mut contexts = Contexts::new(rt.alloc(), 3, 0)?;
+    contexts.push(protect(Value::Class(27)), Env(0)).ok();
+    contexts.push(protect(Value::Class(24)), Env(1)).ok();
+    contexts.push(protect(Value::Integer(3)), Env(2)).ok();
+    let rows = [
+        (2, 25, Search::Found(entry(2, Value::Class(24), 1))),
+        (2, 28, Search::Found(entry(1, Value::Class(27), 0))),
+        (2, 23, Search::Nobody),
+        (0, 25, Search::Nobody),
+        (3, 25, Search::Ask(entry(3, Value::Integer(3), 2))),
+    ];
+    for (env, class, expected) in rows {
+        assert_eq!(rt;
+            find_handler(&contexts, &heap, &image, Env(env), class),
+            expected
+        );
     }
     Ok(())
 }

@@ -1,8 +1,12 @@
 use Rattle.std.proofs.Common.{◌≡◌, sym, ◌∙◌, ap, arith}
 use Rattle.program_image.specs.Images.{image_program}
 use Rattle.st_contexts.specs.Stack.{with_outside}
+use Rattle.signal_env.proofs.Own.{handles-selector}
 use Rattle.signal_env.proofs.Searches.{entry_number, search_ended, search_asks, search_finds, search_past, search_next}
 use Rattle.signal_env.proofs.handlers.find_handler.Goals as goal
+
+pub selector_number-handles-requires : goal.selector_number-handles-requires
+selector_number-handles-requires g c = handles-selector
 
 pub returns-then-not-is_plain : goal.returns-then-not-is_plain
 returns-then-not-is_plain g c = search_asks (image_program c.args.image.now) (g.H.Heap.meaning c.args.heap.now).store c.args.class c.args.contexts.now.acts c.args.env.0 c.loop-entry.link.0 c.loop-entry.invariant c.in-Some.entry (c.entry.ensures.environment ∙ ap (with_outside c.args.contexts.now.acts) c.in-Some.is) (sym c.if-not-is_plain.true ∙ c.is_plain.ensures)
