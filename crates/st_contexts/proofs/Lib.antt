@@ -1,0 +1,6 @@
+mod Lists
+mod Flatten
+mod Coded
+mod Finding
+mod Standing
+mod Links

@@ -1,0 +1,19 @@
+use Rattle.std.proofs.Common.{◌≡◌, Some, None, reverse, sym, ◌∙◌, arith}
+use Rattle.st_contexts.specs.Flat.{place_in}
+use Rattle.st_contexts.proofs.Standing.{found_place, code_operands, code_no_operands}
+use Rattle.st_contexts.proofs.contexts.Contexts.operands.Goals as goal
+
+pub index-requires : goal.index-requires
+index-requires c =
+    let e : Some c.in-Some.place ≡ place_in c.args.activation (reverse c.self.inside.slots.items) = rw c.deref.ensures.value at (sym c.in-Some.is ∙ c.place_of.ensures) in
+    omega (arith, found_place c.args.activation c.self.inside.slots.items c.in-Some.place e, c.self.inside.slots.ok.0)
+
+pub returns-in-Some : goal.returns-in-Some
+returns-in-Some c =
+    let e : Some c.in-Some.place ≡ place_in c.args.activation (reverse c.self.inside.slots.items) = rw c.deref.ensures.value at (sym c.in-Some.is ∙ c.place_of.ensures) in
+    rw (← c.self.view_is) (code_operands c.self.inside.width c.args.activation c.self.inside.slots.items c.self.inside.values.items c.in-Some.place c.index.result.now c.self.invariant.windows e c.index.ensures)
+
+pub returns-in-None : goal.returns-in-None
+returns-in-None c =
+    let e : None ≡ place_in c.args.activation (reverse c.self.inside.slots.items) = rw c.deref.ensures.value at (sym c.in-None.is ∙ c.place_of.ensures) in
+    rw (← c.self.view_is) (code_no_operands c.args.activation c.self.inside.slots.items c.self.inside.values.items e)

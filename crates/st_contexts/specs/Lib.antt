@@ -1,0 +1,4 @@
+pub mod Marks
+pub mod Stack
+pub mod Flat
+pub mod Watched
