@@ -1,0 +1,5 @@
+pub mod Kinds
+pub mod States
+pub mod Steps
+pub mod Counts
+pub mod Visits

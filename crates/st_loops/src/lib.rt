@@ -1,0 +1,11 @@
+// The loop messages, visit by visit, over any heap. Between two visits nothing is on here: what a loop keeps is one small value, and the caller applies the blocks and sends `=`.
+#![tactic(auto)]
+
+mod counts;
+mod kind;
+mod state;
+mod step;
+
+pub use kind::{LoopKind, loop_kind};
+pub use state::{Arguments, LoopState};
+pub use step::LoopStep;
