@@ -1,2 +1,3 @@
 pub mod Numbered
-pub mod Places
+pub mod ByPlace
+pub mod AtIndex

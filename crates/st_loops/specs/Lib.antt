@@ -3,3 +3,4 @@ pub mod States
 pub mod Steps
 pub mod Counts
 pub mod Visits
+pub mod Places

@@ -1,8 +1,11 @@
 // The loop messages, visit by visit, over any heap. Between two visits nothing is on here: what a loop keeps is one small value, and the caller applies the blocks and sends `=`.
 #![tactic(auto)]
 
+mod classes;
 mod counts;
+mod elements;
 mod kind;
+mod places;
 mod state;
 mod step;
 
