@@ -1,3 +1,4 @@
 pub mod Numbered
 pub mod ByPlace
 pub mod AtIndex
+pub mod Grown

@@ -4,3 +4,4 @@ pub mod Steps
 pub mod Counts
 pub mod Visits
 pub mod Places
+pub mod Growth

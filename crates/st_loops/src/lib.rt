@@ -4,6 +4,7 @@
 mod classes;
 mod counts;
 mod elements;
+mod growth;
 mod kind;
 mod places;
 mod state;
