@@ -2,3 +2,5 @@ pub mod Numbered
 pub mod ByPlace
 pub mod AtIndex
 pub mod Grown
+pub mod Charged
+pub mod Made

@@ -5,3 +5,4 @@ pub mod Counts
 pub mod Visits
 pub mod Places
 pub mod Growth
+pub mod Requests

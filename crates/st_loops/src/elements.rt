@@ -1,5 +1,5 @@
 // What a loop over elements does with the element at its index.
-ghost use Rattle.std.specs.Prelude.{◌≡◌, ◌-◌, ◌<◌, ◌^◌, false, IsTrue};
+ghost use Rattle.std.specs.Prelude.{◌≡◌, ◌-◌, ◌<◌, ◌^◌, true};
 ghost use Rattle.st_collections.specs.Actions.{Applies, Compares, first};
 ghost use Rattle.st_collections.specs.Kinds.{natural_of};
 ghost use Rattle.st_loops.specs.Kinds.{message_of};
@@ -94,7 +94,7 @@ fn compare_elements<H: Heap>(heap: &H, state: LoopState) -> LoopStep
 
 /// What a loop does with the element at its index.
 pub fn visit_element<H: Heap>(heap: &H, state: LoopState, element: Value) -> LoopStep
-    requires { IsTrue (has_elements (message_of state.kind)) }
+    requires { has_elements (message_of state.kind) ≡ true }
     ensures { seen result ≡ Next (visited_at (H.meaning heap.now).store (message_of state.kind) (state_of state) element) }
 {
     match state.kind {

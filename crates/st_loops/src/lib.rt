@@ -1,14 +1,18 @@
 // The loop messages, visit by visit, over any heap. Between two visits nothing is on here: what a loop keeps is one small value, and the caller applies the blocks and sends `=`.
 #![tactic(auto)]
 
+mod additions;
 mod classes;
 mod counts;
 mod elements;
+mod ends;
 mod growth;
 mod kind;
+mod makers;
 mod places;
 mod state;
 mod step;
+mod visits;
 
 pub use kind::{LoopKind, loop_kind};
 pub use state::{Arguments, LoopState};
