@@ -1,5 +1,5 @@
 -- What `at:` answers, as the place that it reads.
-use Rattle.std.proofs.Common.{◌≡◌, ℕ, ◌+◌, ◌-◌, ◌≤◌, ℤ, pos, negsuc, Bool, true, false, ◌&&◌, nat_le, if◌then◌else◌, List, [], ◌∷◌, Option, Some, None, refl, ap, ◌∙◌, arith}
+use Rattle.std.proofs.Common.{◌≡◌, ℕ, ◌+◌, ◌-◌, ◌≤◌, ℤ, pos, negsuc, Bool, true, false, ◌&&◌, nat_le, if◌then◌else◌, List, [], ◌∷◌, Option, Some, None, IfSome, IsSome, refl, ap, ◌∙◌, arith}
 use Rattle.std.proofs.lemmas.Bool.{leb-true}
 use Rattle.object_heap.specs.declared.value.Value.{Value}
 use Rattle.object_heap.specs.declared.value.Value.TheVariants.{Integer}
@@ -18,7 +18,7 @@ use Rattle.st_collections.specs.declared.message.CollectionMessage.{CollectionMe
 use Rattle.st_collections.specs.declared.message.OfSequence.{OfSequence}
 use Rattle.st_loops.specs.Visits.{is_place}
 use Rattle.st_loops.specs.declared.places.Place.{Place}
-use Rattle.st_loops.specs.Places.{is_lost, place_told, unless_lost}
+use Rattle.st_loops.specs.Places.{is_lost, number_told, place_told, unless_lost}
 
 -- a value where something stands, else the trouble
 abbrev pub given : Bool → Value → Action
@@ -73,3 +73,29 @@ read_reserved Built.IntegerLimit false v m h e = cc
 read_reserved (Built.Cells u c) true v m h e = cc
 read_reserved (Built.Cells u c) false v m h e = cc
 read_reserved Built.OutOfMemory b v m h e = cc
+
+-- ---- what `size` answers
+
+abbrev sized : ℕ → Action
+sized size = Gives (Integer (pos size))
+
+pub size_message-is : (p : Program) (s : Store) (r : Value) → action_of p s (CollectionMessage.Sequence OfSequence.Size) r [] ≡ sized (size_of p s r)
+unfolding sequence_action
+size_message-is p s r = refl
+
+pub read_size_memory : (r : Built) (size : ℕ) (m m' : Memory) → m' ≡ unless_out r m (memory_of (sized size) m) → m' ≡ m
+read_size_memory r size m m' h = h ∙ same_unless r m
+
+pub read_size : (r : Built) (size : ℕ) (m : Memory) → r ≡ unless_out r r (answer_of (sized size) m) → IfSome (number_told r) (λ n. n ≡ pos size)
+read_size (Built.Value v) size m h = let e : v ≡ Integer (pos size) = cc in rw e refl
+read_size (Built.Trouble t) size m h = cc
+read_size Built.IntegerLimit size m h = cc
+read_size (Built.Cells u c) size m h = cc
+read_size Built.OutOfMemory size m h = tt
+
+pub read_size_reserved : (r : Built) (size : ℕ) (m : Memory) → r ≡ unless_out r r (answer_of (sized size) m) → is_out r ≡ false → IsSome (number_told r)
+read_size_reserved (Built.Value v) size m h e = let is : v ≡ Integer (pos size) = cc in rw is refl
+read_size_reserved (Built.Trouble t) size m h e = cc
+read_size_reserved Built.IntegerLimit size m h e = cc
+read_size_reserved (Built.Cells u c) size m h e = cc
+read_size_reserved Built.OutOfMemory size m h e = cc

@@ -1,17 +1,18 @@
 -- A loop's visit, by whether an element stands at its index.
-use Rattle.std.proofs.Common.{◌≡◌, Bool, true, false, ◌∷◌, if◌then◌else◌, refl, sym, ap, ◌∙◌}
+use Rattle.std.proofs.Common.{◌≡◌, ℕ, ◌<◌, ℤ, pos, ◌&&◌, nat_le, Bool, true, false, ◌∷◌, if◌then◌else◌, refl, sym, ap, ◌∙◌}
+use Rattle.std.proofs.lemmas.Bool.{lt-leb}
 use Rattle.object_heap.specs.declared.value.Value.{Value}
 use Rattle.object_heap.specs.Charges.{Memory}
 use Rattle.object_heap.specs.Store.{Store}
 use Rattle.st_code.specs.Program.{Program}
 use Rattle.st_code.specs.Messages.{LoopMessage}
 use Rattle.st_collections.specs.Actions.{LoopState as State, Visit, Applies, Compares, Finishes, Lacks}
-use Rattle.st_collections.specs.Kinds.{element, natural_of}
+use Rattle.st_collections.specs.Kinds.{element, natural_of, size_of}
 use Rattle.st_collections.specs.Loops.{visit_at, is_within}
 use Rattle.st_loops.specs.declared.places.Place.{Place}
 use Rattle.st_loops.specs.declared.step.LoopStep.{LoopStep}
 use Rattle.st_loops.specs.Places.{place_at}
-use Rattle.st_loops.specs.States.{state_of, values_of}
+use Rattle.st_loops.specs.States.{at_index, state_of, values_of}
 use Rattle.st_loops.specs.Steps.{Seen, Next, Out, is_out, memory_after, seen, told_of, unless_out}
 use Rattle.st_loops.specs.Visits.{ended_at, has_elements, is_place, visited_at}
 
@@ -103,3 +104,51 @@ memory-free r v m m' e same = rw e (same ∙ sym (free_memory r v m e))
 
 pub not_out : (r : LoopStep) (v : Visit) → seen r ≡ Next v → is_out (seen r) ≡ false
 not_out r v e = rw e refl
+
+-- ---- an index that no element has
+
+pub ended-index : (s : Store) (m : LoopMessage) (l : State) (i : ℤ) → ended_at s m (at_index i l) ≡ ended_at s m l
+ended-index s LoopMessage.WhileTrue l i = refl
+ended-index s LoopMessage.WhileFalse l i = refl
+ended-index s LoopMessage.TimesRepeat l i = refl
+ended-index s LoopMessage.ToDo l i = refl
+ended-index s LoopMessage.ToByDo l i = refl
+ended-index s LoopMessage.Do l i = refl
+ended-index s LoopMessage.DoSeparatedBy l i = refl
+ended-index s LoopMessage.ReverseDo l i = refl
+ended-index s LoopMessage.KeysAndValuesDo l i = refl
+ended-index s LoopMessage.KeysDo l i = refl
+ended-index s LoopMessage.InjectInto l i = refl
+ended-index s LoopMessage.Detect l i = refl
+ended-index s LoopMessage.DetectIfNone l i = refl
+ended-index s LoopMessage.AnySatisfy l i = refl
+ended-index s LoopMessage.AllSatisfy l i = refl
+ended-index s LoopMessage.Collect l i = refl
+ended-index s LoopMessage.Select l i = refl
+ended-index s LoopMessage.Reject l i = refl
+ended-index s LoopMessage.Includes l i = refl
+ended-index s LoopMessage.OccurrencesOf l i = refl
+ended-index s LoopMessage.IndexOf l i = refl
+ended-index s LoopMessage.AddToSet l i = refl
+ended-index s LoopMessage.Remove l i = refl
+ended-index s LoopMessage.RemoveIfAbsent l i = refl
+ended-index s LoopMessage.At l i = refl
+ended-index s LoopMessage.AtIfAbsent l i = refl
+ended-index s LoopMessage.AtPut l i = refl
+ended-index s LoopMessage.AtIfAbsentPut l i = refl
+ended-index s LoopMessage.IncludesKey l i = refl
+ended-index s LoopMessage.RemoveKey l i = refl
+ended-index s LoopMessage.RemoveKeyIfAbsent l i = refl
+ended-index s LoopMessage.EqualElements l i = refl
+ended-index s LoopMessage.NotEqual l i = refl
+
+behind_case : (a b : Bool) (x y : Visit) → b ≡ false → (if a && b then x else y) ≡ y
+behind_case true b x y e = rw e refl
+behind_case false b x y e = refl
+
+-- an index past the size
+pub visit-behind : (p : Program) (s : Store) (m : LoopMessage) (l : State) (i : ℕ) → has_elements m ≡ true → size_of p s l.receiver < i → visit_at p s m (at_index (pos i) l) ≡ ended_at s m l
+visit-behind p s m l i h past =
+    let size = size_of p s l.receiver in
+    let high : nat_le i size ≡ false = lt-leb i size past in
+    visit-by_place p s m (at_index (pos i) l) h ∙ behind_case (nat_le 1 i) (nat_le i size) (visited_at s m (at_index (pos i) l) (element p s l.receiver i)) (ended_at s m (at_index (pos i) l)) high ∙ ended-index s m l (pos i)

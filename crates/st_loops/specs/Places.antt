@@ -1,6 +1,7 @@
 -- What stands at an index of a collection, unless the heap wanted memory to read it.
-use Rattle.std.specs.Prelude.{ℕ, ℤ, Bool, true, false, if◌then◌else◌}
+use Rattle.std.specs.Prelude.{ℕ, ℤ, Bool, true, false, Option, Some, None, if◌then◌else◌}
 use Rattle.object_heap.specs.declared.value.Value.{Value}
+use Rattle.object_heap.specs.declared.value.Value.TheVariants.{Integer}
 use Rattle.object_heap.specs.Store.{Store}
 use Rattle.st_code.specs.Program.{Program}
 use Rattle.st_collections.specs.declared.answer.Built.{Built}
@@ -28,3 +29,8 @@ is_lost Place.Past = false
 -- the first where memory was wanted, else the second
 abbrev pub unless_lost : {A : Type 0} → Place → A → A → A
 unless_lost place lost other = if is_lost place then lost else other
+
+-- the number that an answer is
+abbrev pub number_told : Built → Option ℤ
+number_told (Built.Value (Integer n)) = Some n
+number_told answer = None

@@ -1,10 +1,10 @@
 // What stands at an index of a collection, and in the slots of an object.
-ghost use Rattle.std.specs.Prelude.{◌≡◌, ◌+◌, ◌-◌, ◌*◌, ◌<◌, ◌^◌, ℕ, false, get_or, length, IsTrue};
+ghost use Rattle.std.specs.Prelude.{◌≡◌, ◌+◌, ◌-◌, ◌*◌, ◌<◌, ◌^◌, ℕ, pos, false, get_or, length, IsTrue, IfSome, IsSome};
 ghost use Rattle.object_heap.specs.declared.value.Value.{Value};
 ghost use Rattle.st_collections.specs.Answers.{program_of};
 ghost use Rattle.st_collections.specs.Items.{IsMeasured};
-ghost use Rattle.st_collections.specs.Kinds.{is_a, key, slots_of};
-ghost use Rattle.st_loops.specs.Places.{is_lost, place_at, place_told, unless_lost};
+ghost use Rattle.st_collections.specs.Kinds.{is_a, key, size_of, slots_of};
+ghost use Rattle.st_loops.specs.Places.{is_lost, number_told, place_at, place_told, unless_lost};
 
 use object_heap::{Heap, Value};
 use st_collections::{Built, CollectionMessage, OfSequence, collection_message};
@@ -90,4 +90,26 @@ pub fn is_of_class<H: Heap>(heap: &H, class: u32, value: Value) -> bool
         Value::Object(object) => heap.class_of(object) == class,
         _ => false,
     }
+}
+
+// The number that an answer is.
+fn number_told(answer: Built) -> Option<i128>
+    ensures { result ≡ number_told answer }
+{
+    match answer {
+        Built::Value(Value::Integer(number)) => Some(number),
+        _ => None,
+    }
+}
+
+/// How many elements a collection has now, or None where the heap wanted memory.
+pub fn size_now<H: Heap>(heap: &mut H, names: &Names, receiver: Value) -> Option<i128>
+    requires { IsMeasured (H.meaning heap.old).store receiver }
+    ensures memory { H.meaning heap.new ≡ H.meaning heap.old }
+    ensures size { IfSome result (λ n. n ≡ pos (size_of (program_of names.now) (H.meaning heap.old).store receiver)) }
+    ensures reserved { IsTrue H.reserved → IsSome result }
+    ensures literals { H.literal_room heap.new ≡ H.literal_room heap.old }
+{
+    let message = CollectionMessage::Sequence(OfSequence::Size);
+    number_told(collection_message(heap, names, message, receiver, &[]))
 }
