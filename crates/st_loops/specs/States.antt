@@ -1,5 +1,5 @@
 -- What a loop's state and its arguments are, as the definitions of the loops see them.
-use Rattle.std.specs.Prelude.{ℕ, ◌-◌, ◌^◌, Bool, true, false, ℤ, pos, ◌+ℤ◌, int_lt, List, [], ◌∷◌, if◌then◌else◌}
+use Rattle.std.specs.Prelude.{true, false, ℤ, pos, List, [], ◌∷◌}
 use Rattle.object_heap.specs.declared.value.Value.{Value}
 use Rattle.object_heap.specs.declared.value.Value.TheVariants.{Nil}
 use Rattle.st_collections.specs.Actions.{LoopState as State}
@@ -16,10 +16,6 @@ values_of (Arguments.Three v w x) = v ∷ w ∷ x ∷ []
 
 abbrev pub state_of : LoopState → State
 state_of l = record { message = message_of l.kind; receiver = l.receiver; arguments = values_of l.arguments; index = l.index; made = l.made; visited = l.visited; aside = l.aside }
-
--- the next index, or 0, which is none, behind the last one that there can be
-abbrev pub index_after : ℤ → ℤ
-index_after i = if int_lt i (pos (2 ^ 127 - 1)) then i +ℤ pos 1 else pos 0
 
 -- ---- moves of a state
 

@@ -5,6 +5,8 @@ mod additions;
 mod classes;
 mod counts;
 mod elements;
+mod deciding;
+mod each;
 mod ends;
 mod growth;
 mod kind;
@@ -12,6 +14,7 @@ mod makers;
 mod places;
 mod state;
 mod step;
+mod truth;
 mod visits;
 
 pub use kind::{LoopKind, loop_kind};

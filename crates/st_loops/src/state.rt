@@ -1,7 +1,7 @@
 // Where a loop is, and what it has.
 ghost use Rattle.std.specs.Prelude.{◌≡◌, ◌≤◌, pos, length};
 ghost use Rattle.st_collections.specs.Actions.{first, second, third};
-ghost use Rattle.st_loops.specs.States.{at_index, beside, index_after, made_to, past_all, state_of, values_of, visiting};
+ghost use Rattle.st_loops.specs.States.{at_index, beside, made_to, past_all, state_of, values_of, visiting};
 
 use crate::kind::LoopKind;
 use object_heap::Value;
@@ -95,16 +95,6 @@ impl LoopState {
             visited: Value::Nil,
             ..self
         }
-    }
-
-    /// The loop at the next index, or at 0, where no element is, behind the last that there can be.
-    pub fn at_next(self) -> LoopState
-        ensures { state_of result ≡ at_index (index_after self.index) (state_of self) }
-    {
-        if self.index < i128::MAX {
-            return self.at_index(self.index + 1);
-        }
-        self.at_index(0)
     }
 
     /// The loop with another value made so far.

@@ -19,8 +19,8 @@ use crate::step::LoopStep;
 use object_heap::Heap;
 use st_names::Names;
 
-// The visit of the element at the index, or the loop's end.
-fn visit_place<H: Heap>(heap: &mut H, names: &Names, state: LoopState) -> LoopStep
+/// The visit of the element at the index, or the loop's end.
+pub fn visit_place<H: Heap>(heap: &mut H, names: &Names, state: LoopState) -> LoopStep
     requires measured { IsMeasured (H.meaning heap.old).store state.receiver }
     requires receiver { IsReceiver (H.meaning heap.old).store (message_of state.kind) state.receiver }
     requires elements { has_elements (message_of state.kind) ≡ true }
