@@ -4,3 +4,5 @@ pub mod AtIndex
 pub mod Grown
 pub mod Charged
 pub mod Made
+pub mod Gathered
+pub mod Taken

@@ -6,3 +6,5 @@ pub mod Visits
 pub mod Places
 pub mod Growth
 pub mod Requests
+pub mod Gathering
+pub mod Searches

@@ -2,7 +2,8 @@
 use Rattle.std.specs.Prelude.{ℕ, ℤ, ◌<ℤ◌, ◌≡◌}
 use Rattle.object_heap.specs.declared.value.Value.{Value}
 use Rattle.object_heap.specs.declared.value.Value.TheVariants.{Object}
-use Rattle.object_heap.specs.Store.{Store}
+use Rattle.object_heap.specs.Store.{Store, object_at}
+use Rattle.st_code.specs.BuiltIns.{ordered_collection_class}
 use Rattle.st_code.specs.Messages.{LoopMessage}
 use Rattle.st_loops.specs.Growth.{IsPaired, IsRoomy, IsSingle}
 
@@ -29,3 +30,12 @@ IsReceiver s LoopMessage.RemoveIfAbsent r = HasRoom s r
 IsReceiver s LoopMessage.RemoveKey r = HasRoom s r
 IsReceiver s LoopMessage.RemoveKeyIfAbsent r = HasRoom s r
 IsReceiver s m r = Unit {0}
+
+-- the collection that a loop makes is an OrderedCollection as it stands
+pub record IsGathered (s : Store) (n : ℕ) : Type 0 where
+  pub roomy : IsRoomy s n
+  pub ordered : (object_at n s).class ≡ ordered_collection_class
+
+abbrev pub HasGathered : Store → Value → Type 0
+HasGathered s (Object n) = IsGathered s n
+HasGathered s v = Unit {0}

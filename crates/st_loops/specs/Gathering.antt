@@ -1,0 +1,21 @@
+-- The loops that make a collection.
+use Rattle.std.specs.Prelude.{ℤ, pos, ◌+ℤ◌, Bool, true, false, [], ◌∷◌, ◌++◌, if◌then◌else◌}
+use Rattle.object_heap.specs.declared.value.Value.{Value}
+use Rattle.object_heap.specs.Store.{Store}
+use Rattle.st_code.specs.Program.{Program}
+use Rattle.st_code.specs.Messages.{LoopMessage}
+use Rattle.st_collections.specs.Actions.{LoopState as State, Visit}
+use Rattle.st_collections.specs.Kinds.{slots_of}
+use Rattle.st_collections.specs.Loops.{visit_at}
+use Rattle.st_loops.specs.States.{at_index}
+use Rattle.st_loops.specs.Visits.{appended}
+
+abbrev pub gathers : LoopMessage → Bool
+gathers LoopMessage.Collect = true
+gathers LoopMessage.Select = true
+gathers LoopMessage.Reject = true
+gathers m = false
+
+-- a value more in the collection made, then the next index
+abbrev pub added : Program → Store → State → Value → Visit
+added p s l v = appended s l.made (slots_of s l.made ++ v ∷ []) (λ s'. visit_at p s' l.message (at_index (l.index +ℤ pos 1) l))
