@@ -5,6 +5,8 @@ use Rattle.object_heap.specs.declared.value.Value.TheVariants.{Object}
 use Rattle.object_heap.specs.Store.{Store, object_at}
 use Rattle.st_code.specs.BuiltIns.{ordered_collection_class}
 use Rattle.st_code.specs.Messages.{LoopMessage}
+use Rattle.st_collections.specs.Actions.{LoopState as State}
+use Rattle.st_collections.specs.Kinds.{integer_of}
 use Rattle.st_loops.specs.Growth.{IsPaired, IsRoomy, IsSingle}
 
 -- no object, or one that has room for its slots, whose slots come one by one, or in pairs
@@ -39,3 +41,11 @@ pub record IsGathered (s : Store) (n : ℕ) : Type 0 where
 abbrev pub HasGathered : Store → Value → Type 0
 HasGathered s (Object n) = IsGathered s n
 HasGathered s v = Unit {0}
+
+-- what a loop keeps between its visits: the collection that it makes, or a count below its index
+abbrev pub IsKept : Store → LoopMessage → State → Type 0
+IsKept s LoopMessage.Collect l = HasGathered s l.made
+IsKept s LoopMessage.Select l = HasGathered s l.made
+IsKept s LoopMessage.Reject l = HasGathered s l.made
+IsKept s LoopMessage.OccurrencesOf l = integer_of l.made <ℤ l.index
+IsKept s m l = Unit {0}

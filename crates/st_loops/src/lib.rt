@@ -2,6 +2,7 @@
 #![tactic(auto)]
 
 mod additions;
+mod advance;
 mod classes;
 mod counts;
 mod elements;
