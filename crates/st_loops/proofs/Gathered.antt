@@ -1,10 +1,11 @@
 -- What stays true while a loop makes a collection.
-use Rattle.std.proofs.Common.{◌≡◌, ℕ, ◌<◌, ◌^◌, Bool, true, false, List, nat_eq, inl, inr, refl, ap, sym, ◌∙◌, arith, get_or, length}
-use Rattle.std.proofs.lemmas.Bool.{eqb-true, eqb-false}
-use Rattle.std.proofs.lemmas.List.{get_or-set_other}
+use Rattle.std.proofs.Common.{◌≡◌, ℕ, ◌<◌, ◌^◌, ◌≤◌, Bool, true, false, List, [], ◌∷◌, nat_eq, inl, inr, refl, ap, sym, ◌∙◌, arith, get_or, length}
+use Rattle.std.proofs.lemmas.Bool.{cases_eq, cases_lt, eqb-true, eqb-false}
+use Rattle.std.proofs.lemmas.List.{get_or_append_left, get_or_at, get_or_past, get_or-set_other, length-append}
+use Rattle.st_collections.specs.Actions.{new_object, with_new}
 use Rattle.object_heap.specs.declared.value.Value.{Value}
 use Rattle.object_heap.specs.declared.value.Value.TheVariants.{Nil, True, False, Integer, Character, Symbol, Class, Meta, Transcript, Object}
-use Rattle.object_heap.specs.Store.{Store, Object as HeapObject, no_object, object_at, object_set}
+use Rattle.object_heap.specs.Store.{Store, Object as HeapObject, no_object, object_added, object_at, object_set}
 use Rattle.st_code.specs.Messages.{LoopMessage}
 use Rattle.st_code.specs.BuiltIns.{dictionary_class, interval_class, ordered_collection_class}
 use Rattle.st_collections.specs.Items.{IsMeasured}
@@ -114,3 +115,39 @@ measured-grown s n slots (Symbol i) h e = tt
 measured-grown s n slots (Class i) h e = tt
 measured-grown s n slots (Meta i) h e = tt
 measured-grown s n slots Transcript h e = tt
+
+-- ---- a new collection
+
+added_low : (s : Store) (k : ℕ) (o : HeapObject) → k < length s.objects → object_at k (object_added o s) ≡ object_at k s
+added_low s k o low = get_or_append_left s.objects (o ∷ []) no_object k low
+
+added_class : (s : Store) (k : ℕ) (o : HeapObject) → length s.objects ≤ k → (o.class ≡ interval_class → ⊥) → (object_at k (object_added o s)).class ≡ interval_class → ⊥
+added_class s k o high other is = elim (cases_eq k (length s.objects)) [
+  | inl last ↦
+      let now : object_at k (object_added o s) ≡ o = get_or_at s.objects o [] no_object k (sym last) in
+      other (sym (ap (λ (x : HeapObject). x.class) now) ∙ is)
+  | inr apart ↦
+      let past : length (object_added o s).objects ≤ k = omega (arith, length-append s.objects (o ∷ [])) in
+      let none : object_at k (object_added o s) ≡ no_object = get_or_past (object_added o s).objects k no_object past in
+      let zeroth : 0 ≡ interval_class = sym (ap (λ (x : HeapObject). x.class) none) ∙ is in
+      omega arith
+]
+
+added_measured : (s : Store) (k : ℕ) (o : HeapObject) → (o.class ≡ interval_class → ⊥) → IsMeasured s (Object k) → IsMeasured (object_added o s) (Object k)
+added_measured s k o other h = elim (cases_lt k (length s.objects)) [
+  | inl low ↦ rw (added_low s k o low) h
+  | inr high ↦ λ is. absurd (added_class s k o high other is)
+]
+
+pub measured-added : (s : Store) (r : Value) → IsMeasured s r → IsMeasured (with_new ordered_collection_class [] [] s) r
+unfolding with_new
+measured-added s (Object k) h = added_measured s k (new_object ordered_collection_class [] []) (λ is. let e : ordered_collection_class ≡ interval_class = is in omega arith) h
+measured-added s Nil h = tt
+measured-added s True h = tt
+measured-added s False h = tt
+measured-added s (Integer i) h = tt
+measured-added s (Character i) h = tt
+measured-added s (Symbol i) h = tt
+measured-added s (Class i) h = tt
+measured-added s (Meta i) h = tt
+measured-added s Transcript h = tt

@@ -6,3 +6,4 @@ pub mod Charged
 pub mod Made
 pub mod Gathered
 pub mod Taken
+pub mod ByNames

@@ -8,3 +8,4 @@ pub mod Growth
 pub mod Requests
 pub mod Gathering
 pub mod Searches
+pub mod Starts

@@ -2,7 +2,8 @@
 #![tactic(auto)]
 
 mod additions;
-mod advance;
+mod advancing;
+mod beginning;
 mod classes;
 mod counts;
 mod elements;

@@ -129,3 +129,23 @@ fn step_by_names<H: Heap>(
         LoopKind::NotEqual => not_given(given),
     }
 }
+
+/// Goes on with the value that the application or the send of `=` gave, or that the signal of
+/// `not found` answered. `names` has the texts of the symbols. What one charge takes is tested
+/// before anything of it is written.
+pub fn advance<H: Heap>(
+    heap: &mut H,
+    names: &Names,
+    state: LoopState,
+    given: Value,
+) -> LoopStep
+    requires measured { IsMeasured (H.meaning heap.old).store state.receiver }
+    requires receiver { IsReceiver (H.meaning heap.old).store (message_of state.kind) state.receiver }
+    requires kept { IsKept (H.meaning heap.old).store (message_of state.kind) (state_of state) }
+    ensures memory { (p : Program) → p.names ≡ names.now → H.meaning heap.new ≡ unless_out (seen result) (H.meaning heap.new) (memory_after (next_visit p (H.meaning heap.old).store (state_of state) given) (H.meaning heap.old)) }
+    ensures step { (p : Program) → p.names ≡ names.now → seen result ≡ unless_out (seen result) Out (told_of (next_visit p (H.meaning heap.old).store (state_of state) given) (H.meaning heap.old)) }
+    ensures reserved { IsTrue H.reserved → is_out (seen result) ≡ false }
+    ensures literals { H.literal_room heap.new ≡ H.literal_room heap.old }
+{
+    step_by_names(heap, names, state, given)
+}

@@ -3,7 +3,7 @@ use Rattle.st_collections.specs.Loops.{given_at, visit_at}
 use Rattle.st_loops.specs.Counts.{times_visit}
 use Rattle.st_loops.specs.States.{at_index, state_of}
 use Rattle.st_loops.proofs.ByPlace.{memory-free, told-free}
-use Rattle.st_loops.proofs.advance.step_by_names.Goals as goal
+use Rattle.st_loops.proofs.advancing.step_by_names.Goals as goal
 
 pub returns-in-TimesRepeat-clause-memory : goal.returns-in-TimesRepeat-clause-memory
 unfolding given_at visit_at
