@@ -7,3 +7,4 @@ pub mod Made
 pub mod Gathered
 pub mod Taken
 pub mod ByNames
+pub mod Begun
