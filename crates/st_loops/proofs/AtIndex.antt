@@ -1,5 +1,5 @@
 -- What `at:` answers, as the place that it reads.
-use Rattle.std.proofs.Common.{◌≡◌, ℕ, ◌+◌, ◌-◌, ◌≤◌, ℤ, pos, negsuc, Bool, true, false, ◌&&◌, nat_le, if◌then◌else◌, List, [], ◌∷◌, Option, Some, None, IfSome, IsSome, refl, ap, ◌∙◌, arith}
+use Rattle.std.proofs.Common.{◌≡◌, ℕ, ◌+◌, ◌-◌, ◌≤◌, ℤ, pos, negsuc, Bool, true, false, ◌&&◌, nat_le, if◌then◌else◌, [], ◌∷◌, Some, None, IfSome, IsSome, refl, ap, ◌∙◌, arith}
 use Rattle.std.proofs.lemmas.Bool.{leb-true}
 use Rattle.object_heap.specs.declared.value.Value.{Value}
 use Rattle.object_heap.specs.declared.value.Value.TheVariants.{Integer}
@@ -9,7 +9,7 @@ use Rattle.st_collections.specs.declared.answer.Built.{Built}
 use Rattle.st_collections.specs.Actions.{Action, Gives, Fails}
 use Rattle.st_collections.specs.Answers.{answer_of, is_out, memory_of, unless_out}
 use Rattle.st_collections.specs.Kinds.{element, natural_of, size_of}
-use Rattle.st_collections.specs.ObjectRows.{indexed, index_in}
+use Rattle.st_collections.specs.ObjectRows.{indexed}
 use Rattle.object_heap.specs.Store.{Store}
 use Rattle.st_code.specs.Program.{Program}
 use Rattle.st_collections.specs.AtOnce.{action_of}

@@ -1,5 +1,5 @@
 -- Of a program, the loops ask for its names alone.
-use Rattle.std.proofs.Common.{◌≡◌, ℕ, ◌+◌, Bool, true, false, ◌&&◌, List, [], ◌∷◌, nat_le, if◌then◌else◌, refl, sym, ap, ◌∙◌}
+use Rattle.std.proofs.Common.{◌≡◌, true, List, refl, sym, ap, ◌∙◌}
 use Rattle.object_heap.specs.declared.value.Value.{Value}
 use Rattle.object_heap.specs.Store.{Store}
 use Rattle.st_code.specs.Texts.{Text}
@@ -7,7 +7,7 @@ use Rattle.st_code.specs.Program.{Program}
 use Rattle.st_code.specs.Messages.{LoopMessage}
 use Rattle.st_collections.specs.Actions.{LoopState as State}
 use Rattle.st_collections.specs.Answers.{program_of}
-use Rattle.st_collections.specs.Kinds.{element, natural_of, size_of}
+use Rattle.st_collections.specs.Kinds.{natural_of}
 use Rattle.st_collections.specs.Loops.{given_at, is_within, next_visit, visit_at}
 use Rattle.st_collections.proofs.ByNames.{same_element, same_size}
 use Rattle.st_loops.specs.Visits.{has_elements}
@@ -58,36 +58,36 @@ pub given-names : (p : Program) (s : Store) (m : LoopMessage) (l : State) (v : V
 unfolding given_at is_within
 given-names p s LoopMessage.WhileTrue l v = refl
 given-names p s LoopMessage.WhileFalse l v = refl
-given-names p s LoopMessage.TimesRepeat l v = simp (visit-names p, same_size p, same_element p)
+given-names p s LoopMessage.TimesRepeat l v = simp (visit-names p)
 given-names p s LoopMessage.ToDo l v = refl
 given-names p s LoopMessage.ToByDo l v = refl
-given-names p s LoopMessage.Do l v = simp (visit-names p, same_size p, same_element p)
-given-names p s LoopMessage.DoSeparatedBy l v = simp (visit-names p, same_size p, same_element p)
-given-names p s LoopMessage.ReverseDo l v = simp (visit-names p, same_size p, same_element p)
-given-names p s LoopMessage.KeysAndValuesDo l v = simp (visit-names p, same_size p, same_element p)
-given-names p s LoopMessage.KeysDo l v = simp (visit-names p, same_size p, same_element p)
-given-names p s LoopMessage.InjectInto l v = simp (visit-names p, same_size p, same_element p)
-given-names p s LoopMessage.Detect l v = simp (visit-names p, same_size p, same_element p)
-given-names p s LoopMessage.DetectIfNone l v = simp (visit-names p, same_size p, same_element p)
-given-names p s LoopMessage.AnySatisfy l v = simp (visit-names p, same_size p, same_element p)
-given-names p s LoopMessage.AllSatisfy l v = simp (visit-names p, same_size p, same_element p)
-given-names p s LoopMessage.Collect l v = simp (visit-names p, same_size p, same_element p)
-given-names p s LoopMessage.Select l v = simp (visit-names p, same_size p, same_element p)
-given-names p s LoopMessage.Reject l v = simp (visit-names p, same_size p, same_element p)
-given-names p s LoopMessage.Includes l v = simp (visit-names p, same_size p, same_element p)
-given-names p s LoopMessage.OccurrencesOf l v = simp (visit-names p, same_size p, same_element p)
-given-names p s LoopMessage.IndexOf l v = simp (visit-names p, same_size p, same_element p)
-given-names p s LoopMessage.AddToSet l v = simp (visit-names p, same_size p, same_element p)
+given-names p s LoopMessage.Do l v = simp (visit-names p)
+given-names p s LoopMessage.DoSeparatedBy l v = simp (visit-names p)
+given-names p s LoopMessage.ReverseDo l v = simp (visit-names p, same_size p)
+given-names p s LoopMessage.KeysAndValuesDo l v = simp (visit-names p)
+given-names p s LoopMessage.KeysDo l v = simp (visit-names p)
+given-names p s LoopMessage.InjectInto l v = simp (visit-names p)
+given-names p s LoopMessage.Detect l v = simp (visit-names p)
+given-names p s LoopMessage.DetectIfNone l v = simp (visit-names p)
+given-names p s LoopMessage.AnySatisfy l v = simp (visit-names p)
+given-names p s LoopMessage.AllSatisfy l v = simp (visit-names p)
+given-names p s LoopMessage.Collect l v = simp (visit-names p)
+given-names p s LoopMessage.Select l v = simp (visit-names p)
+given-names p s LoopMessage.Reject l v = simp (visit-names p)
+given-names p s LoopMessage.Includes l v = simp (visit-names p, same_size p)
+given-names p s LoopMessage.OccurrencesOf l v = simp (visit-names p, same_size p)
+given-names p s LoopMessage.IndexOf l v = simp (visit-names p, same_size p)
+given-names p s LoopMessage.AddToSet l v = simp (visit-names p, same_size p)
 given-names p s LoopMessage.Remove l v = simp (visit-names p, same_size p, same_element p)
 given-names p s LoopMessage.RemoveIfAbsent l v = simp (visit-names p, same_size p, same_element p)
-given-names p s LoopMessage.At l v = simp (visit-names p, same_size p, same_element p)
-given-names p s LoopMessage.AtIfAbsent l v = simp (visit-names p, same_size p, same_element p)
-given-names p s LoopMessage.AtPut l v = simp (visit-names p, same_size p, same_element p)
-given-names p s LoopMessage.AtIfAbsentPut l v = simp (visit-names p, same_size p, same_element p)
-given-names p s LoopMessage.IncludesKey l v = simp (visit-names p, same_size p, same_element p)
-given-names p s LoopMessage.RemoveKey l v = simp (visit-names p, same_size p, same_element p)
-given-names p s LoopMessage.RemoveKeyIfAbsent l v = simp (visit-names p, same_size p, same_element p)
-given-names p s LoopMessage.EqualElements l v = simp (visit-names p, same_size p, same_element p)
+given-names p s LoopMessage.At l v = simp (visit-names p, same_size p)
+given-names p s LoopMessage.AtIfAbsent l v = simp (visit-names p, same_size p)
+given-names p s LoopMessage.AtPut l v = simp (visit-names p, same_size p)
+given-names p s LoopMessage.AtIfAbsentPut l v = simp (visit-names p, same_size p)
+given-names p s LoopMessage.IncludesKey l v = simp (visit-names p, same_size p)
+given-names p s LoopMessage.RemoveKey l v = simp (visit-names p, same_size p)
+given-names p s LoopMessage.RemoveKeyIfAbsent l v = simp (visit-names p, same_size p)
+given-names p s LoopMessage.EqualElements l v = simp (visit-names p)
 given-names p s LoopMessage.NotEqual l v = refl
 
 pub next_visit-names : (p : Program) (names : List Text) (s : Store) (l : State) (v : Value) → p.names ≡ names → next_visit p s l v ≡ given_at (program_of names) s l.message l v

@@ -1,5 +1,5 @@
 -- A loop's visit, by whether an element stands at its index.
-use Rattle.std.proofs.Common.{◌≡◌, ℕ, ◌<◌, ℤ, pos, ◌&&◌, nat_le, Bool, true, false, ◌∷◌, if◌then◌else◌, refl, sym, ap, ◌∙◌}
+use Rattle.std.proofs.Common.{◌≡◌, ℕ, ◌<◌, ℤ, pos, ◌&&◌, nat_le, Bool, true, false, if◌then◌else◌, refl, sym, ap, ◌∙◌}
 use Rattle.std.proofs.lemmas.Bool.{lt-leb}
 use Rattle.object_heap.specs.declared.value.Value.{Value}
 use Rattle.object_heap.specs.Charges.{Memory}
@@ -13,7 +13,7 @@ use Rattle.st_loops.specs.declared.places.Place.{Place}
 use Rattle.st_loops.specs.declared.step.LoopStep.{LoopStep}
 use Rattle.st_loops.specs.Places.{place_at}
 use Rattle.st_loops.specs.States.{at_index, state_of, values_of}
-use Rattle.st_loops.specs.Steps.{Seen, Next, Out, is_out, memory_after, seen, told_of, unless_out}
+use Rattle.st_loops.specs.Steps.{Next, Out, is_out, memory_after, seen, told_of, unless_out}
 use Rattle.st_loops.specs.Visits.{ended_at, has_elements, is_place, visited_at}
 
 -- an element stands at the index, or the loop is at its end

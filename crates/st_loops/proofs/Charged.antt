@@ -1,6 +1,5 @@
 -- A visit whose first charge was paid, or passed the limit.
-use Rattle.std.proofs.Common.{◌≡◌, ℕ, ◌+◌, ◌≤◌, Bool, true, false, nat_le, Result, Ok, Err, if◌then◌else◌, refl, sym, ◌∙◌}
-use Rattle.std.proofs.lemmas.Bool.{leb-true}
+use Rattle.std.proofs.Common.{◌≡◌, ℕ, ◌+◌, Bool, true, false, nat_le, Result, Ok, Err, if◌then◌else◌, refl, sym, ◌∙◌}
 use Rattle.object_heap.specs.Store.{Store}
 use Rattle.object_heap.specs.Charges.{Memory, charged, if_out}
 use Rattle.object_heap.specs.declared.heap.HeapStop.{HeapStop}

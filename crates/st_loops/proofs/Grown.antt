@@ -1,16 +1,15 @@
 -- A collection with a slot or a pair more, as the heap makes it.
-use Rattle.std.proofs.Common.{◌≡◌, ℕ, suc, ◌+◌, ◌-◌, ◌*◌, ◌/◌, ◌<◌, ◌≤◌, Bool, true, false, List, [], ◌∷◌, ◌++◌, length, take, replicate, set, nat_eq, nat_lt, nat_le, max, Result, Ok, Err, if◌then◌else◌, refl, ap, sym, ◌∙◌, arith}
+use Rattle.std.proofs.Common.{◌≡◌, ℕ, ◌+◌, ◌-◌, ◌*◌, ◌/◌, ◌<◌, ◌≤◌, Bool, true, false, List, [], ◌∷◌, ◌++◌, length, take, replicate, set, nat_lt, nat_le, max, Err, if◌then◌else◌, refl, ap, sym, ◌∙◌, arith}
 use Rattle.std.proofs.lemmas.Bool.{le-leb, le-ltb, lt-ltb, ltb-true, ltb-false, ne_eqb}
 use Rattle.std.proofs.Math.Nat.{div-one, one-mul}
 use Rattle.std.proofs.lemmas.List.{append_assoc, set_at, take_all, length-append}
 use Rattle.object_heap.specs.declared.value.Value.{Value}
 use Rattle.object_heap.specs.declared.value.Value.TheVariants.{Nil}
-use Rattle.object_heap.specs.Store.{Store, Object, object_at, object_set, regrown, resized, slot_written, with_capacity, with_length, with_room, with_slot, with_slots}
+use Rattle.object_heap.specs.Store.{Store, Object, object_at, object_set, resized, slot_written, with_capacity, with_length, with_room, with_slot, with_slots}
 use Rattle.object_heap.specs.Charges.{Memory, charged, if_out, with_store}
 use Rattle.object_heap.specs.declared.heap.HeapStop.{HeapStop}
 use Rattle.object_heap.specs.declared.heap.HeapStop.TheVariants.{Limit, OutOfMemory}
 use Rattle.st_code.specs.BuiltIns.{dictionary_class}
-use Rattle.st_collections.specs.Answers.{told}
 use Rattle.st_collections.specs.Ordered.{room_answer, room_for_one}
 use Rattle.st_collections.specs.SequenceRows.{Room, grown_to, per_element, with_elements, with_room as put_room}
 use Rattle.st_collections.proofs.Gaps.{changed_again, grown_one}
@@ -89,9 +88,9 @@ one_store s n room v stands fits =
     let wide = with_capacity room o in
     let long = with_slots (o.slots ++ Nil ∷ []) wide in
     let e : with_length n (length o.slots + 1) (with_room n room s) ≡ object_set n long s =
-        ap (λ (t : Store). with_length n (length o.slots + 1) t) (wide_store s n room (omega arith))
-        ∙ changed_again n wide s (resized (length o.slots + 1)) stands
-        ∙ ap (λ (x : Object). object_set n x s) (longer wide (length o.slots + 1) (o.slots ++ Nil ∷ []) fits (nil_more o.slots)) in
+    ap (λ (t : Store). with_length n (length o.slots + 1) t) (wide_store s n room (omega arith))
+    ∙ changed_again n wide s (resized (length o.slots + 1)) stands
+    ∙ ap (λ (x : Object). object_set n x s) (longer wide (length o.slots + 1) (o.slots ++ Nil ∷ []) fits (nil_more o.slots)) in
     ap (λ (t : Store). with_slot n (length o.slots) v t) e
     ∙ changed_again n long s (slot_written (length o.slots) v) stands
     ∙ ap (λ (ys : List Value). object_set n (put_room o ys room) s) (set_at o.slots Nil [] v (length o.slots) refl)
@@ -111,11 +110,11 @@ two_store s n room k v stands fits =
     let long = with_slots (o.slots ++ Nil ∷ Nil ∷ []) wide in
     let keyed = slot_written (length o.slots) k long in
     let e : with_length n (length o.slots + 2) (with_room n room s) ≡ object_set n long s =
-        ap (λ (t : Store). with_length n (length o.slots + 2) t) (wide_store s n room (omega arith))
-        ∙ changed_again n wide s (resized (length o.slots + 2)) stands
-        ∙ ap (λ (x : Object). object_set n x s) (longer wide (length o.slots + 2) (o.slots ++ Nil ∷ Nil ∷ []) fits (nils_more o.slots)) in
+    ap (λ (t : Store). with_length n (length o.slots + 2) t) (wide_store s n room (omega arith))
+    ∙ changed_again n wide s (resized (length o.slots + 2)) stands
+    ∙ ap (λ (x : Object). object_set n x s) (longer wide (length o.slots + 2) (o.slots ++ Nil ∷ Nil ∷ []) fits (nils_more o.slots)) in
     let f : with_slot n (length o.slots) k (with_length n (length o.slots + 2) (with_room n room s)) ≡ object_set n keyed s =
-        ap (λ (t : Store). with_slot n (length o.slots) k t) e ∙ changed_again n long s (slot_written (length o.slots) k) stands in
+    ap (λ (t : Store). with_slot n (length o.slots) k t) e ∙ changed_again n long s (slot_written (length o.slots) k) stands in
     ap (λ (t : Store). with_slot n (length o.slots + 1) v t) f
     ∙ changed_again n keyed s (slot_written (length o.slots + 1) v) stands
     ∙ ap (λ (ys : List Value). object_set n (put_room o ys room) s) (set_two o.slots k v)

@@ -1,15 +1,14 @@
 -- New objects of the slots of a collection, slot by slot.
-use Rattle.std.proofs.Common.{◌≡◌, ℕ, ◌+◌, ◌-◌, ◌<◌, ◌≤◌, Bool, true, false, List, [], ◌∷◌, map, length, get_or, replicate, set, nat_le, if◌then◌else◌, inl, inr, refl, ap, sym, ◌∙◌, arith}
+use Rattle.std.proofs.Common.{◌≡◌, ℕ, ◌+◌, ◌<◌, ◌≤◌, List, [], ◌∷◌, map, length, get_or, replicate, set, inl, inr, refl, ap, sym, ◌∙◌, arith}
 use Rattle.std.proofs.lemmas.Bool.{cases_lt, le-leb}
-use Rattle.std.proofs.lemmas.List.{get_or_past, get_or_append_left, length-replicate}
+use Rattle.std.proofs.lemmas.List.{get_or_past, get_or_append_left}
 use Rattle.std.proofs.lemmas.List.FromFn.{fill_by_all}
 use Rattle.object_heap.specs.declared.value.Value.{Value}
 use Rattle.object_heap.specs.declared.value.Value.TheVariants.{Nil, True, False, Integer, Character, Symbol, Class, Meta, Transcript, Object}
 use Rattle.object_heap.specs.Store.{Store, Object as HeapObject, no_object, object_added, object_at, with_byte}
 use Rattle.object_heap.specs.Charges.{Memory, charged, made, object_charge, with_store}
 use Rattle.st_code.specs.BuiltIns.{string_class}
-use Rattle.st_collections.specs.Actions.{makes_slots, new_object, with_new}
-use Rattle.st_collections.specs.Answers.{memory_of}
+use Rattle.st_collections.specs.Actions.{new_object, with_new}
 use Rattle.st_collections.specs.Kinds.{slots_of}
 use Rattle.st_collections.specs.TextRows.{byte_of}
 use Rattle.st_collections.proofs.Objects.{item_written_last, makes_slots-is, map-replicate, slots_all, slots_filled, so_far, so_far_all, so_far_more}
@@ -58,14 +57,14 @@ pub bytes_more : (m : Memory) (values : List Value) (count k : ℕ) (v : Value) 
 bytes_more m values count k v h e =
     let f = λ (i : ℕ). get_or values i Nil in
     let written : with_byte (length m.store.objects) k (byte_of (f k)) (object_added (new_object string_class [] (map byte_of (so_far f count k))) m.store) ≡ object_added (new_object string_class [] (map byte_of (set (so_far f count k) k (f k)))) m.store =
-        item_written_last string_class k (f k) (so_far f count k) m.store in
+    item_written_last string_class k (f k) (so_far f count k) m.store in
     rw (e, written, so_far_more f count k h) refl
 
 pub bytes_paid : (m : Memory) (values : List Value) (count : ℕ) → length values ≡ count → bytes_filled m values count count ≡ paid (object_charge 0 count) (with_new string_class [] (map byte_of values) m.store) m
 unfolding with_new
 bytes_paid m values count e =
     let all : so_far (λ i. get_or values i Nil) count count ≡ values =
-        so_far_all (λ i. get_or values i Nil) count ∙ sym (fill_by_all (λ i. get_or values i Nil) values count Nil e (λ k h. refl)) in
+    so_far_all (λ i. get_or values i Nil) count ∙ sym (fill_by_all (λ i. get_or values i Nil) values count Nil e (λ k h. refl)) in
     rw all refl
 
 pub made_string : (n : ℕ) (m : Memory) → made string_class 0 n m ≡ charged (object_charge 0 n) (object_added (new_object string_class [] (map byte_of (replicate n Nil))) m.store) m

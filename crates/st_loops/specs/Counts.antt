@@ -1,10 +1,10 @@
 -- The loops that count, and those that ask their receiver each time.
-use Rattle.std.specs.Prelude.{ℕ, ℤ, pos, negsuc, int_lt, int_le, ◌+ℤ◌, Bool, true, false, List, [], ◌∷◌, if◌then◌else◌}
+use Rattle.std.specs.Prelude.{ℤ, pos, negsuc, int_lt, int_le, Bool, false, List, [], ◌∷◌, if◌then◌else◌}
 use Rattle.object_heap.specs.declared.value.Value.{Value}
 use Rattle.object_heap.specs.declared.value.Value.TheVariants.{Nil, Integer}
 use Rattle.st_collections.specs.Actions.{LoopState as State, Visit, Applies, Finishes, first}
 use Rattle.st_collections.specs.Kinds.{integer_of}
-use Rattle.st_loops.specs.States.{at_index, beside}
+use Rattle.st_loops.specs.States.{beside}
 
 -- the receiver again, or first the argument
 abbrev pub while_argument : State → List Value → Visit

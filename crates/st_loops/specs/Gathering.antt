@@ -1,5 +1,5 @@
 -- The loops that make a collection.
-use Rattle.std.specs.Prelude.{ℤ, pos, ◌+ℤ◌, Bool, true, false, [], ◌∷◌, ◌++◌, if◌then◌else◌}
+use Rattle.std.specs.Prelude.{pos, ◌+ℤ◌, Bool, true, false, [], ◌∷◌, ◌++◌}
 use Rattle.object_heap.specs.declared.value.Value.{Value}
 use Rattle.object_heap.specs.Store.{Store}
 use Rattle.st_code.specs.Program.{Program}

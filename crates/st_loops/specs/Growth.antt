@@ -1,7 +1,5 @@
 -- Collections that a loop adds to or takes from.
-use Rattle.std.specs.Prelude.{ℕ, ◌+◌, ◌*◌, ◌/◌, ◌≤◌, ◌<◌, ◌≡◌, max, List, length, nat_lt, if◌then◌else◌}
-use Rattle.object_heap.specs.declared.value.Value.{Value}
-use Rattle.object_heap.specs.declared.value.Value.TheVariants.{Object}
+use Rattle.std.specs.Prelude.{ℕ, ◌*◌, ◌/◌, ◌≤◌, ◌<◌, ◌≡◌, length, nat_lt, if◌then◌else◌}
 use Rattle.object_heap.specs.Store.{Store, object_at}
 use Rattle.st_code.specs.BuiltIns.{dictionary_class}
 use Rattle.st_collections.specs.SequenceRows.{Room}

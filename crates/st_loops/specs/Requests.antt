@@ -1,5 +1,5 @@
 -- What a loop asks of its receiver and of the collection that it makes.
-use Rattle.std.specs.Prelude.{ℕ, ℤ, ◌<ℤ◌, ◌≡◌}
+use Rattle.std.specs.Prelude.{ℕ, ◌<ℤ◌, ◌≡◌}
 use Rattle.object_heap.specs.declared.value.Value.{Value}
 use Rattle.object_heap.specs.declared.value.Value.TheVariants.{Object}
 use Rattle.object_heap.specs.Store.{Store, object_at}

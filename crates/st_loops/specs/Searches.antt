@@ -1,5 +1,5 @@
 -- The searches by `=`: what a match brings.
-use Rattle.std.specs.Prelude.{ℕ, ◌-◌, ◌*◌, ℤ, pos, ◌+ℤ◌, Bool, true, false, ◌&&◌, [], get_or, if◌then◌else◌}
+use Rattle.std.specs.Prelude.{ℕ, ◌-◌, ◌*◌, pos, ◌+ℤ◌, ◌&&◌, get_or, if◌then◌else◌}
 use Rattle.object_heap.specs.declared.value.Value.{Value}
 use Rattle.object_heap.specs.declared.value.Value.TheVariants.{Nil, True, Integer, Object}
 use Rattle.object_heap.specs.Store.{Store, with_slot}

@@ -1,5 +1,5 @@
 -- Where a loop begins, and what is wrong with its arguments.
-use Rattle.std.specs.Prelude.{ℕ, ℤ, pos, int_le, nat_eq, Bool, true, false, ◌&&◌, List, length, Option, Some, None, if◌then◌else◌}
+use Rattle.std.specs.Prelude.{ℤ, pos, int_le, nat_eq, Bool, false, ◌&&◌, List, length, Option, Some, None, if◌then◌else◌}
 use Rattle.object_heap.specs.declared.value.Value.{Value}
 use Rattle.object_heap.specs.declared.value.Value.TheVariants.{Nil, Integer, Object}
 use Rattle.object_heap.specs.declared.trouble.Trouble.{Trouble}

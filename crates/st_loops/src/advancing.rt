@@ -28,12 +28,7 @@ use object_heap::{Heap, Value};
 use st_names::Names;
 
 // Where nothing was found, what the block or the signal gives is the answer.
-fn answered_given<H: Heap>(
-    heap: &mut H,
-    names: &Names,
-    state: LoopState,
-    given: Value,
-) -> LoopStep
+fn answered_given<H: Heap>(heap: &mut H, names: &Names, state: LoopState, given: Value) -> LoopStep
     requires measured { IsMeasured (H.meaning heap.old).store state.receiver }
     requires receiver { IsReceiver (H.meaning heap.old).store (message_of state.kind) state.receiver }
     requires elements { has_elements (message_of state.kind) ≡ true }
@@ -77,12 +72,7 @@ fn not_given(given: Value) -> LoopStep
 
 // The next step, for a program that has names alone.
 #[tactic(auto, unfolding(st_collections::specs::Loops::given_at, st_collections::specs::Loops::is_within))]
-fn step_by_names<H: Heap>(
-    heap: &mut H,
-    names: &Names,
-    state: LoopState,
-    given: Value,
-) -> LoopStep
+fn step_by_names<H: Heap>(heap: &mut H, names: &Names, state: LoopState, given: Value) -> LoopStep
     requires measured { IsMeasured (H.meaning heap.old).store state.receiver }
     requires receiver { IsReceiver (H.meaning heap.old).store (message_of state.kind) state.receiver }
     requires kept { IsKept (H.meaning heap.old).store (message_of state.kind) (state_of state) }
@@ -99,7 +89,12 @@ fn step_by_names<H: Heap>(
         LoopKind::ToDo => count_given(state, 1, integer_of(arguments.first()), arguments.second()),
         LoopKind::ToByDo => {
             let step = integer_of(arguments.second());
-            count_given(state, step, integer_of(arguments.first()), arguments.third())
+            count_given(
+                state,
+                step,
+                integer_of(arguments.first()),
+                arguments.third(),
+            )
         }
         LoopKind::Do | LoopKind::KeysAndValuesDo | LoopKind::KeysDo => {
             visit_further(heap, names, state)
@@ -133,12 +128,7 @@ fn step_by_names<H: Heap>(
 /// Goes on with the value that the application or the send of `=` gave, or that the signal of
 /// `not found` answered. `names` has the texts of the symbols. What one charge takes is tested
 /// before anything of it is written.
-pub fn advance<H: Heap>(
-    heap: &mut H,
-    names: &Names,
-    state: LoopState,
-    given: Value,
-) -> LoopStep
+pub fn advance<H: Heap>(heap: &mut H, names: &Names, state: LoopState, given: Value) -> LoopStep
     requires measured { IsMeasured (H.meaning heap.old).store state.receiver }
     requires receiver { IsReceiver (H.meaning heap.old).store (message_of state.kind) state.receiver }
     requires kept { IsKept (H.meaning heap.old).store (message_of state.kind) (state_of state) }

@@ -1,8 +1,6 @@
 // How a loop begins.
-ghost use Rattle.std.specs.Prelude.{◌≡◌, ◌≤◌, ◌+◌, [], true, false, length, IsTrue, IfSome, IsSome, if◌then◌else◌};
+ghost use Rattle.std.specs.Prelude.{◌≡◌, ◌≤◌, [], true, false, length, IsTrue};
 ghost use Rattle.object_heap.specs.Charges.{charged, if_out, ran_out};
-ghost use Rattle.object_heap.specs.Store.{Store};
-ghost use Rattle.object_heap.specs.declared.value.Value.{Value};
 ghost use Rattle.st_code.specs.BuiltIns.{ordered_collection_class};
 ghost use Rattle.st_code.specs.Program.{Program};
 ghost use Rattle.st_collections.specs.Actions.{Iterates, LoopState as State, with_new};
@@ -12,117 +10,21 @@ ghost use Rattle.st_collections.specs.Loops.{first_of_message, first_visit, loop
 ghost use Rattle.st_loops.specs.Gathering.{gathers, with_made};
 ghost use Rattle.st_loops.specs.Kinds.{message_of};
 ghost use Rattle.st_loops.specs.Requests.{IsReceiver};
-ghost use Rattle.st_loops.specs.Starts.{loop_trouble, same_kind, started, step_trouble, stop_trouble, trouble_of};
-ghost use Rattle.st_loops.specs.States.{state_of, values_of};
+ghost use Rattle.st_loops.specs.Starts.{same_kind, started};
+ghost use Rattle.st_loops.specs.States.{state_of};
 ghost use Rattle.st_loops.specs.Steps.{Next, Out, is_out, memory_after, seen, told_of, unless_out};
 ghost use Rattle.st_loops.specs.Visits.{has_elements};
 
 use crate::classes::ORDERED_COLLECTION;
 use crate::counts::{count_visit, integer_of, times_visit};
 use crate::kind::LoopKind;
-use crate::places::{is_of_class, size_now, slots_now};
+use crate::places::{is_of_class, slots_now};
+use crate::starts::start;
 use crate::state::{Arguments, LoopState};
 use crate::step::{LoopStep, step_stop};
 use crate::visits::visit_place;
-use object_heap::{Heap, HeapStop, Trouble, Value};
+use object_heap::{Heap, HeapStop, Value};
 use st_names::Names;
-
-fn stop_trouble(stop: Value) -> Option<Trouble>
-    ensures { result ≡ stop_trouble stop }
-{
-    match stop {
-        Value::Integer(_) => None,
-        _ => Some(Trouble::NumberExpected),
-    }
-}
-
-fn step_trouble(step: Value) -> Option<Trouble>
-    ensures { result ≡ step_trouble step }
-{
-    match step {
-        Value::Integer(0) => Some(Trouble::StepIsZero),
-        Value::Integer(_) => None,
-        _ => Some(Trouble::NumberExpected),
-    }
-}
-
-// What is wrong with the arguments of a loop message.
-fn loop_trouble(kind: LoopKind, arguments: Arguments) -> Option<Trouble>
-    ensures { result ≡ loop_trouble (message_of kind) (values_of arguments) }
-{
-    match kind {
-        LoopKind::ToDo => stop_trouble(arguments.first()),
-        LoopKind::ToByDo => match stop_trouble(arguments.first()) {
-            Some(trouble) => Some(trouble),
-            None => step_trouble(arguments.second()),
-        },
-        _ => None,
-    }
-}
-
-// The state in which a loop begins, or None where the heap wanted memory.
-fn start<H: Heap>(
-    heap: &mut H,
-    names: &Names,
-    kind: LoopKind,
-    receiver: Value,
-    arguments: Arguments,
-) -> Option<LoopState>
-    requires { IsMeasured (H.meaning heap.old).store receiver }
-    ensures memory { H.meaning heap.new ≡ H.meaning heap.old }
-    ensures state { IfSome result (λ l. state_of l ≡ started (program_of names.now) (H.meaning heap.old).store (message_of kind) receiver (values_of arguments)) }
-    ensures kind { IfSome result (λ l. l.kind ≡ kind) }
-    ensures receiver { IfSome result (λ l. l.receiver ≡ receiver) }
-    ensures reserved { IsTrue H.reserved → IsSome result }
-    ensures literals { H.literal_room heap.new ≡ H.literal_room heap.old }
-{
-    let fresh = LoopState {
-        kind,
-        receiver,
-        arguments,
-        index: 1,
-        made: Value::Nil,
-        visited: Value::Nil,
-        aside: false,
-    };
-    match kind {
-        LoopKind::WhileTrue | LoopKind::WhileFalse | LoopKind::NotEqual => {
-            Some(fresh.at_index(0))
-        }
-        LoopKind::ToDo | LoopKind::ToByDo => Some(fresh.at_index(integer_of(receiver))),
-        LoopKind::ReverseDo => match size_now(heap, names, receiver) {
-            Some(size) => Some(fresh.at_index(size)),
-            None => None,
-        },
-        LoopKind::InjectInto => Some(fresh.made_to(arguments.first())),
-        LoopKind::OccurrencesOf => Some(fresh.made_to(Value::Integer(0))),
-        LoopKind::TimesRepeat
-        | LoopKind::Do
-        | LoopKind::DoSeparatedBy
-        | LoopKind::KeysAndValuesDo
-        | LoopKind::KeysDo
-        | LoopKind::Detect
-        | LoopKind::DetectIfNone
-        | LoopKind::AnySatisfy
-        | LoopKind::AllSatisfy
-        | LoopKind::Collect
-        | LoopKind::Select
-        | LoopKind::Reject
-        | LoopKind::Includes
-        | LoopKind::IndexOf
-        | LoopKind::AddToSet
-        | LoopKind::Remove
-        | LoopKind::RemoveIfAbsent
-        | LoopKind::At
-        | LoopKind::AtIfAbsent
-        | LoopKind::AtPut
-        | LoopKind::AtIfAbsentPut
-        | LoopKind::IncludesKey
-        | LoopKind::RemoveKey
-        | LoopKind::RemoveKeyIfAbsent
-        | LoopKind::EqualElements => Some(fresh),
-    }
-}
 
 // A new OrderedCollection.
 #[tactic(auto, unfolding(st_collections::specs::Actions::with_new))]
@@ -159,8 +61,7 @@ fn has_same_kind<H: Heap>(heap: &H, state: LoopState) -> bool
         return false;
     };
     let other = state.arguments.first();
-    is_of_class(heap, heap.class_of(object), other)
-        && heap.length(object) == slots_now(heap, other)
+    is_of_class(heap, heap.class_of(object), other) && heap.length(object) == slots_now(heap, other)
 }
 
 // The first visit of a loop that goes over no elements.
@@ -180,7 +81,12 @@ fn visit_plain<H: Heap>(heap: &H, names: &Names, state: LoopState) -> LoopStep
         LoopKind::ToDo => count_visit(state, 1, integer_of(arguments.first()), arguments.second()),
         LoopKind::ToByDo => {
             let step = integer_of(arguments.second());
-            count_visit(state, step, integer_of(arguments.first()), arguments.third())
+            count_visit(
+                state,
+                step,
+                integer_of(arguments.first()),
+                arguments.third(),
+            )
         }
         LoopKind::NotEqual => LoopStep::Equal {
             state,
@@ -242,16 +148,6 @@ fn begin_by_names<H: Heap>(
         Some(state) => first_step(heap, names, state),
         None => LoopStep::OutOfMemory,
     }
-}
-
-/// The trouble with a loop message other than `not found`, which comes before the loop begins: the
-/// stop or the step of `to:do:` or `to:by:do:` is no Integer, or the step is 0. There are at most
-/// three arguments.
-pub fn first_trouble(kind: LoopKind, arguments: &[Value]) -> Option<Trouble>
-    requires { length arguments.now ≤ 3 }
-    ensures { (p : Program) (s : Store) (receiver : Value) → result ≡ trouble_of (loop_action p s (message_of kind) receiver arguments.now) }
-{
-    loop_trouble(kind, Arguments::from_values(arguments))
 }
 
 /// Begins a loop, where its message has no trouble: gives its first visit, or its answer. `names`

@@ -43,11 +43,7 @@ pub fn downwards_given<H: Heap>(heap: &mut H, names: &Names, state: LoopState) -
     ensures reserved { IsTrue H.reserved → is_out (seen result) ≡ false }
     ensures literals { H.literal_room heap.new ≡ H.literal_room heap.old }
 {
-    let below = if state.index < 1 {
-        0
-    } else {
-        state.index - 1
-    };
+    let below = if state.index < 1 { 0 } else { state.index - 1 };
     match size_now(heap, names, state.receiver) {
         Some(size) => visit_place(heap, names, state.at_index(below.min(size))),
         None => LoopStep::OutOfMemory,

@@ -69,7 +69,11 @@ fn remove_element<H: Heap>(heap: &mut H, state: LoopState, element: Value) -> Lo
     ensures literals { H.literal_room heap.new ≡ H.literal_room heap.old }
 {
     is_within_limit(heap);
-    take_out_at(heap, state.receiver, place_of(state.index).saturating_sub(1));
+    take_out_at(
+        heap,
+        state.receiver,
+        place_of(state.index).saturating_sub(1),
+    );
     LoopStep::Answer(element)
 }
 
@@ -77,7 +81,11 @@ fn remove_element<H: Heap>(heap: &mut H, state: LoopState, element: Value) -> Lo
 fn value_at<H: Heap>(heap: &H, state: LoopState) -> Value
     ensures { result ≡ value_at (H.meaning heap.now).store (state_of state) }
 {
-    slot_now(heap, state.receiver, (2 * place_of(state.index)).saturating_sub(1))
+    slot_now(
+        heap,
+        state.receiver,
+        (2 * place_of(state.index)).saturating_sub(1),
+    )
 }
 
 // Takes out the key that matched and its value, and answers the value.

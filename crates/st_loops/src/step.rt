@@ -24,10 +24,15 @@ pub enum LoopStep {
     Answer(Value),
     /// The trouble `not found` is signaled, while the loop stands. What the signal answers is what
     /// the loop goes on with.
-    Lacking { state: LoopState },
+    Lacking {
+        state: LoopState,
+    },
     /// The cells used and the cells that the loop takes next together pass the limit. A charge
     /// above 2^128 - 1 is told as 2^128 - 1.
-    Cells { used: u32, charge: u128 },
+    Cells {
+        used: u32,
+        charge: u128,
+    },
     /// The heap wanted memory. What the loop had taken before stays taken.
     OutOfMemory,
 }

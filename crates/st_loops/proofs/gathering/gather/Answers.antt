@@ -7,7 +7,7 @@ use Rattle.st_collections.specs.SequenceRows.{with_elements}
 use Rattle.st_loops.specs.Kinds.{message_of}
 use Rattle.st_loops.specs.States.{at_index, state_of}
 use Rattle.st_loops.specs.Steps.{paid}
-use Rattle.st_loops.proofs.Charged.{full_memory, full_step, paid-is, paid_after, paid_step, within_limit}
+use Rattle.st_loops.proofs.Charged.{full_memory, full_step, paid-is, within_limit}
 use Rattle.st_loops.proofs.Gathered.{measured-grown}
 use Rattle.st_loops.proofs.gathering.gather.Goals as goal
 

@@ -1,8 +1,6 @@
-use Rattle.std.proofs.Common.{◌≡◌, ℕ, ◌+◌, ◌*◌, ◌≤◌, ◌++◌, ◌∷◌, [], max, length, Ok, Err, ap, sym, ◌∙◌, arith}
-use Rattle.std.proofs.lemmas.Bool.{le-leb}
+use Rattle.std.proofs.Common.{◌≡◌, ◌+◌, ◌≤◌, ◌++◌, ◌∷◌, [], max, length, arith}
 use Rattle.object_heap.specs.Store.{Store, object_at, object_set, with_length, with_room, with_slot}
-use Rattle.object_heap.specs.Charges.{charged, if_out, with_store}
-use Rattle.st_collections.specs.Ordered.{room_answer}
+use Rattle.object_heap.specs.Charges.{charged, with_store}
 use Rattle.st_collections.specs.SequenceRows.{with_room as put_room}
 use Rattle.st_collections.proofs.Gaps.{paid_room}
 use Rattle.st_loops.proofs.Grown.{pair_room, with_two, two_store, pair_room-fits, paid_memory, stopped_memory}

@@ -1,5 +1,4 @@
 use Rattle.std.proofs.Common.{◌≡◌, ◌+◌, ◌≤◌, length}
-use Rattle.object_heap.specs.Charges.{object_charge}
 use Rattle.st_collections.specs.Kinds.{slots_of}
 use Rattle.st_collections.proofs.Objects.{slots_filled}
 use Rattle.st_loops.proofs.makers.turn_into.Given as goal

@@ -1,16 +1,15 @@
-use Rattle.std.proofs.Common.{◌≡◌, ◌+◌, ◌-◌, ◌<◌, ◌≤◌, ◌∙◌, Bool, true, nat_le, map, replicate, [], refl, sym, arith, get_or, length}
+use Rattle.std.proofs.Common.{◌≡◌, ◌+◌, ◌<◌, ◌∙◌, true, nat_le, map, replicate, [], refl, arith, get_or, length}
 use Rattle.std.proofs.lemmas.Bool.{le-leb}
 use Rattle.object_heap.specs.declared.value.Value.TheVariants.{Nil}
-use Rattle.object_heap.specs.Charges.{object_charge, charged}
+use Rattle.object_heap.specs.Charges.{object_charge}
 use Rattle.object_heap.specs.Store.{object_added}
 use Rattle.st_code.specs.BuiltIns.{string_class}
 use Rattle.st_collections.specs.Actions.{Finishes, new_object, next_object, with_new}
 use Rattle.st_collections.specs.Kinds.{slots_of}
 use Rattle.st_collections.specs.TextRows.{byte_of}
-use Rattle.st_collections.proofs.Objects.{paid_of, slots_filled, slots_more, so_far}
-use Rattle.st_loops.specs.Steps.{paid}
+use Rattle.st_collections.proofs.Objects.{so_far}
 use Rattle.st_loops.proofs.Charged.{full_memory, full_step}
-use Rattle.st_loops.proofs.Made.{bytes_filled, bytes_more, bytes_paid, filled_paid, slots_kept}
+use Rattle.st_loops.proofs.Made.{bytes_more, bytes_paid, slots_kept}
 use Rattle.st_loops.proofs.makers.turn_into_string.Goals as goal
 
 pub returns-in-Err-clause-memory : goal.returns-in-Err-clause-memory
@@ -34,7 +33,7 @@ loop-place-preserved g c =
     let n = length items in
     let here : c.loop-place.place < n = omega (arith, c.loop-place-test.true, c.slots_now-count.ensures) in
     let value : c.slot_now-value.result ≡ get_or items c.loop-place.place Nil =
-        (rw (c.loop-place.invariant.memory, slots_kept (new_object string_class [] (map byte_of (so_far (λ i. get_or items i Nil) n c.loop-place.place))) m.store c.args.made c.loop-place.place here) at c.slot_now-value.ensures) in
+    (rw (c.loop-place.invariant.memory, slots_kept (new_object string_class [] (map byte_of (so_far (λ i. get_or items i Nil) n c.loop-place.place))) m.store c.args.made c.loop-place.place here) at c.slot_now-value.ensures) in
     record {
       object = c.loop-place.invariant.object;
       memory = (rw (c.loop-place.invariant.memory, c.loop-place.invariant.object, c.byte_of.ensures) at c.put_byte.ensures.written) ∙ (bytes_more m items n c.loop-place.place c.slot_now-value.result here value);

@@ -1,4 +1,4 @@
-use Rattle.std.proofs.Common.{ap, sym, ◌≡◌, ◌≤◌, arith, length}
+use Rattle.std.proofs.Common.{ap, sym, ◌≤◌, arith, length}
 use Rattle.object_heap.specs.Charges.{with_store}
 use Rattle.object_heap.specs.Store.{Store, object_at}
 use Rattle.st_loops.proofs.Taken.{without_past}

@@ -1,4 +1,4 @@
-use Rattle.std.proofs.Common.{◌≡◌, ◌<◌, ◌^◌, pos, FitsSigned, rules}
+use Rattle.std.proofs.Common.{◌^◌, pos, FitsSigned, rules}
 use Rattle.std.specs.Int.{w128}
 use Rattle.st_collections.specs.Answers.{program_of}
 use Rattle.st_collections.specs.Kinds.{size_of}
