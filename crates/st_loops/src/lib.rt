@@ -31,3 +31,6 @@ pub use requests::{is_kept, is_receiver};
 pub use state::{Arguments, LoopState};
 pub use step::LoopStep;
 pub use troubles::first_trouble;
+
+#[cfg(test)]
+mod tests;
