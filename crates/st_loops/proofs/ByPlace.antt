@@ -99,7 +99,7 @@ free_memory LoopStep.OutOfMemory v m e = cc
 pub told-free : (r : LoopStep) (v : Visit) (m : Memory) → seen r ≡ Next v → seen r ≡ unless_out (seen r) Out (told_of v m)
 told-free r v m e = rw e (sym (free_told r v m e))
 
-pub memory-free : (r : LoopStep) (v : Visit) (m m' : Memory) → seen r ≡ Next v → m' ≡ m → m' ≡ unless_out (seen r) m' (memory_after v m)
+pub memory-free : (r : LoopStep) (v : Visit) (m m' : Memory) → seen r ≡ Next v → m' ≡ m → m' ≡ unless_out (seen r) m (memory_after v m)
 memory-free r v m m' e same = rw e (same ∙ sym (free_memory r v m e))
 
 pub not_out : (r : LoopStep) (v : Visit) → seen r ≡ Next v → is_out (seen r) ≡ false

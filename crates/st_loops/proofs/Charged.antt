@@ -6,7 +6,7 @@ use Rattle.object_heap.specs.declared.heap.HeapStop.{HeapStop}
 use Rattle.object_heap.specs.declared.heap.HeapStop.TheVariants.{Limit, OutOfMemory}
 use Rattle.st_collections.specs.Actions.{Visit, Charges}
 use Rattle.st_collections.specs.Answers.{told}
-use Rattle.st_loops.specs.Steps.{Seen, Out, Full, memory_after, paid, stop_seen, told_of, unless_out}
+use Rattle.st_loops.specs.Steps.{Seen, Next, Out, Full, memory_after, paid, stop_seen, told_of, unless_out}
 
 -- what a charge answers
 abbrev pub answer_for : {A : Type 0} → ℕ → A → Memory → Result A HeapStop
@@ -24,11 +24,17 @@ stays_case : {A : Type 0} → (b : Bool) (u c : ℕ) (a : A) (cells : ℕ) (m x 
 stays_case true u c a cells m x e = cc
 stays_case false u c a cells m x e = refl
 
-pub full_memory : {A : Type 0} → (a : A) (stop : HeapStop) (m m' : Memory) (cells : ℕ) (t s : Store) (v : Visit) → m' ≡ if_out {A = A} (Err stop) m (charged cells t m) → Err stop ≡ if_out {A = A} (Err stop) (Err stop) (answer_for cells a m) → m' ≡ unless_out (stop_seen stop) m' (memory_after (Charges cells s v) m)
+pub full_memory : {A : Type 0} → (a : A) (stop : HeapStop) (m m' : Memory) (cells : ℕ) (t s : Store) (v : Visit) → m' ≡ if_out {A = A} (Err stop) m (charged cells t m) → Err stop ≡ if_out {A = A} (Err stop) (Err stop) (answer_for cells a m) → m' ≡ unless_out (stop_seen stop) m (memory_after (Charges cells s v) m)
 full_memory a (Limit u c) m m' cells t s v e f =
     let b = nat_le (m.used + cells) m.limit in
     e ∙ stays_case b u c a cells m (record { store = t; used = m.used + cells; limit = m.limit }) f ∙ sym (stays_case b u c a cells m (memory_after v (paid cells s m)) f)
-full_memory a OutOfMemory m m' cells t s v e f = refl
+full_memory a OutOfMemory m m' cells t s v e f = e
+
+-- where memory was wanted, less may be said
+pub any_out : (step : Seen) (m m' n : Memory) → m' ≡ unless_out step m n → m' ≡ unless_out step m' n
+any_out (Next v) m m' n e = e
+any_out (Full used charge) m m' n e = e
+any_out Out m m' n e = refl
 
 within_case : {A : Type 0} → (b : Bool) (x a : A) (cells : ℕ) (m : Memory) → Ok x ≡ (if b then Ok a else Err (Limit m.used (told cells))) → b ≡ true
 within_case true x a cells m e = refl

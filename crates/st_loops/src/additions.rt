@@ -14,7 +14,7 @@ use object_heap::{Heap, Value};
 #[tactic(auto, unfolding(st_collections::specs::Kinds::slots_of))]
 pub fn add_element<H: Heap>(heap: &mut H, collection: Value, value: Value) -> LoopStep
     requires { HasElements (H.meaning heap.old).store collection }
-    ensures memory { let m = H.meaning heap.old in H.meaning heap.new ≡ unless_out (seen result) (H.meaning heap.new) (memory_after (appended m.store collection (slots_of m.store collection ++ value ∷ []) (λ s. Finishes value)) m) }
+    ensures memory { let m = H.meaning heap.old in H.meaning heap.new ≡ unless_out (seen result) m (memory_after (appended m.store collection (slots_of m.store collection ++ value ∷ []) (λ s. Finishes value)) m) }
     ensures step { let m = H.meaning heap.old in seen result ≡ unless_out (seen result) Out (told_of (appended m.store collection (slots_of m.store collection ++ value ∷ []) (λ s. Finishes value)) m) }
     ensures reserved { IsTrue H.reserved → is_out (seen result) ≡ false }
     ensures literals { H.literal_room heap.new ≡ H.literal_room heap.old }
@@ -32,7 +32,7 @@ pub fn add_element<H: Heap>(heap: &mut H, collection: Value, value: Value) -> Lo
 #[tactic(auto, unfolding(st_collections::specs::Kinds::slots_of))]
 pub fn add_pair<H: Heap>(heap: &mut H, dictionary: Value, key: Value, value: Value) -> LoopStep
     requires { HasPairs (H.meaning heap.old).store dictionary }
-    ensures memory { let m = H.meaning heap.old in H.meaning heap.new ≡ unless_out (seen result) (H.meaning heap.new) (memory_after (with_pair m.store dictionary key value) m) }
+    ensures memory { let m = H.meaning heap.old in H.meaning heap.new ≡ unless_out (seen result) m (memory_after (with_pair m.store dictionary key value) m) }
     ensures step { let m = H.meaning heap.old in seen result ≡ unless_out (seen result) Out (told_of (with_pair m.store dictionary key value) m) }
     ensures reserved { IsTrue H.reserved → is_out (seen result) ≡ false }
     ensures literals { H.literal_room heap.new ≡ H.literal_room heap.old }

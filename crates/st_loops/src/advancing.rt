@@ -6,6 +6,7 @@ ghost use Rattle.st_collections.specs.Answers.{program_of};
 ghost use Rattle.st_collections.specs.Items.{IsMeasured};
 ghost use Rattle.st_collections.specs.Kinds.{is_true};
 ghost use Rattle.st_collections.specs.Loops.{given_at, next_visit};
+ghost use Rattle.st_loops.specs.Gathering.{gathers};
 ghost use Rattle.st_loops.specs.Kinds.{message_of};
 ghost use Rattle.st_loops.specs.Requests.{HasPairs, IsKept, IsReceiver};
 ghost use Rattle.st_loops.specs.Searches.{searched};
@@ -32,7 +33,7 @@ fn answered_given<H: Heap>(heap: &mut H, names: &Names, state: LoopState, given:
     requires measured { IsMeasured (H.meaning heap.old).store state.receiver }
     requires receiver { IsReceiver (H.meaning heap.old).store (message_of state.kind) state.receiver }
     requires elements { has_elements (message_of state.kind) ≡ true }
-    ensures memory { H.meaning heap.new ≡ unless_out (seen result) (H.meaning heap.new) (memory_after (if state.aside then Finishes given else searched (program_of names.now) (H.meaning heap.old).store (state_of state) given) (H.meaning heap.old)) }
+    ensures memory { H.meaning heap.new ≡ unless_out (seen result) (H.meaning heap.old) (memory_after (if state.aside then Finishes given else searched (program_of names.now) (H.meaning heap.old).store (state_of state) given) (H.meaning heap.old)) }
     ensures step { seen result ≡ unless_out (seen result) Out (told_of (if state.aside then Finishes given else searched (program_of names.now) (H.meaning heap.old).store (state_of state) given) (H.meaning heap.old)) }
     ensures reserved { IsTrue H.reserved → is_out (seen result) ≡ false }
     ensures literals { H.literal_room heap.new ≡ H.literal_room heap.old }
@@ -49,7 +50,7 @@ fn absent_given<H: Heap>(heap: &mut H, names: &Names, state: LoopState, given: V
     requires receiver { IsReceiver (H.meaning heap.old).store (message_of state.kind) state.receiver }
     requires elements { has_elements (message_of state.kind) ≡ true }
     requires pairs { HasPairs (H.meaning heap.old).store state.receiver }
-    ensures memory { H.meaning heap.new ≡ unless_out (seen result) (H.meaning heap.new) (memory_after (if state.aside then with_pair (H.meaning heap.old).store state.receiver (first (values_of state.arguments)) given else searched (program_of names.now) (H.meaning heap.old).store (state_of state) given) (H.meaning heap.old)) }
+    ensures memory { H.meaning heap.new ≡ unless_out (seen result) (H.meaning heap.old) (memory_after (if state.aside then with_pair (H.meaning heap.old).store state.receiver (first (values_of state.arguments)) given else searched (program_of names.now) (H.meaning heap.old).store (state_of state) given) (H.meaning heap.old)) }
     ensures step { seen result ≡ unless_out (seen result) Out (told_of (if state.aside then with_pair (H.meaning heap.old).store state.receiver (first (values_of state.arguments)) given else searched (program_of names.now) (H.meaning heap.old).store (state_of state) given) (H.meaning heap.old)) }
     ensures reserved { IsTrue H.reserved → is_out (seen result) ≡ false }
     ensures literals { H.literal_room heap.new ≡ H.literal_room heap.old }
@@ -76,7 +77,7 @@ fn step_by_names<H: Heap>(heap: &mut H, names: &Names, state: LoopState, given: 
     requires measured { IsMeasured (H.meaning heap.old).store state.receiver }
     requires receiver { IsReceiver (H.meaning heap.old).store (message_of state.kind) state.receiver }
     requires kept { IsKept (H.meaning heap.old).store (message_of state.kind) (state_of state) }
-    ensures memory { H.meaning heap.new ≡ unless_out (seen result) (H.meaning heap.new) (memory_after (given_at (program_of names.now) (H.meaning heap.old).store (message_of state.kind) (state_of state) given) (H.meaning heap.old)) }
+    ensures memory { H.meaning heap.new ≡ unless_out (seen result) (if gathers (message_of state.kind) then H.meaning heap.new else H.meaning heap.old) (memory_after (given_at (program_of names.now) (H.meaning heap.old).store (message_of state.kind) (state_of state) given) (H.meaning heap.old)) }
     ensures step { seen result ≡ unless_out (seen result) Out (told_of (given_at (program_of names.now) (H.meaning heap.old).store (message_of state.kind) (state_of state) given) (H.meaning heap.old)) }
     ensures reserved { IsTrue H.reserved → is_out (seen result) ≡ false }
     ensures literals { H.literal_room heap.new ≡ H.literal_room heap.old }
@@ -132,7 +133,7 @@ pub fn advance<H: Heap>(heap: &mut H, names: &Names, state: LoopState, given: Va
     requires measured { IsMeasured (H.meaning heap.old).store state.receiver }
     requires receiver { IsReceiver (H.meaning heap.old).store (message_of state.kind) state.receiver }
     requires kept { IsKept (H.meaning heap.old).store (message_of state.kind) (state_of state) }
-    ensures memory { (p : Program) → p.names ≡ names.now → H.meaning heap.new ≡ unless_out (seen result) (H.meaning heap.new) (memory_after (next_visit p (H.meaning heap.old).store (state_of state) given) (H.meaning heap.old)) }
+    ensures memory { (p : Program) → p.names ≡ names.now → H.meaning heap.new ≡ unless_out (seen result) (if gathers (message_of state.kind) then H.meaning heap.new else H.meaning heap.old) (memory_after (next_visit p (H.meaning heap.old).store (state_of state) given) (H.meaning heap.old)) }
     ensures step { (p : Program) → p.names ≡ names.now → seen result ≡ unless_out (seen result) Out (told_of (next_visit p (H.meaning heap.old).store (state_of state) given) (H.meaning heap.old)) }
     ensures reserved { IsTrue H.reserved → is_out (seen result) ≡ false }
     ensures literals { H.literal_room heap.new ≡ H.literal_room heap.old }

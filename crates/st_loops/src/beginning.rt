@@ -1,5 +1,5 @@
 // How a loop begins.
-ghost use Rattle.std.specs.Prelude.{◌≡◌, ◌≤◌, [], true, false, length, IsTrue};
+ghost use Rattle.std.specs.Prelude.{◌≡◌, ◌≤◌, [], true, false, length, IsTrue, if◌then◌else◌};
 ghost use Rattle.object_heap.specs.Charges.{charged, if_out, ran_out};
 ghost use Rattle.st_code.specs.BuiltIns.{ordered_collection_class};
 ghost use Rattle.st_code.specs.Program.{Program};
@@ -102,7 +102,7 @@ fn visit_plain<H: Heap>(heap: &H, names: &Names, state: LoopState) -> LoopStep
 fn first_step<H: Heap>(heap: &mut H, names: &Names, state: LoopState) -> LoopStep
     requires measured { IsMeasured (H.meaning heap.old).store state.receiver }
     requires receiver { IsReceiver (H.meaning heap.old).store (message_of state.kind) state.receiver }
-    ensures memory { H.meaning heap.new ≡ unless_out (seen result) (H.meaning heap.new) (memory_after (first_of_message (program_of names.now) (H.meaning heap.old).store (message_of state.kind) (state_of state)) (H.meaning heap.old)) }
+    ensures memory { H.meaning heap.new ≡ unless_out (seen result) (if gathers (message_of state.kind) then H.meaning heap.new else H.meaning heap.old) (memory_after (first_of_message (program_of names.now) (H.meaning heap.old).store (message_of state.kind) (state_of state)) (H.meaning heap.old)) }
     ensures step { seen result ≡ unless_out (seen result) Out (told_of (first_of_message (program_of names.now) (H.meaning heap.old).store (message_of state.kind) (state_of state)) (H.meaning heap.old)) }
     ensures reserved { IsTrue H.reserved → is_out (seen result) ≡ false }
     ensures literals { H.literal_room heap.new ≡ H.literal_room heap.old }
@@ -138,7 +138,7 @@ fn begin_by_names<H: Heap>(
     requires few { length arguments.now ≤ 3 }
     requires measured { IsMeasured (H.meaning heap.old).store receiver }
     requires receiver { IsReceiver (H.meaning heap.old).store (message_of kind) receiver }
-    ensures memory { H.meaning heap.new ≡ unless_out (seen result) (H.meaning heap.new) (memory_after (first_of_message (program_of names.now) (H.meaning heap.old).store (message_of kind) (started (program_of names.now) (H.meaning heap.old).store (message_of kind) receiver arguments.now)) (H.meaning heap.old)) }
+    ensures memory { H.meaning heap.new ≡ unless_out (seen result) (if gathers (message_of kind) then H.meaning heap.new else H.meaning heap.old) (memory_after (first_of_message (program_of names.now) (H.meaning heap.old).store (message_of kind) (started (program_of names.now) (H.meaning heap.old).store (message_of kind) receiver arguments.now)) (H.meaning heap.old)) }
     ensures step { seen result ≡ unless_out (seen result) Out (told_of (first_of_message (program_of names.now) (H.meaning heap.old).store (message_of kind) (started (program_of names.now) (H.meaning heap.old).store (message_of kind) receiver arguments.now)) (H.meaning heap.old)) }
     ensures reserved { IsTrue H.reserved → is_out (seen result) ≡ false }
     ensures literals { H.literal_room heap.new ≡ H.literal_room heap.old }
@@ -162,7 +162,7 @@ pub fn begin<H: Heap>(
     requires few { length arguments.now ≤ 3 }
     requires measured { IsMeasured (H.meaning heap.old).store receiver }
     requires receiver { IsReceiver (H.meaning heap.old).store (message_of kind) receiver }
-    ensures memory { (p : Program) (l : State) → p.names ≡ names.now → loop_action p (H.meaning heap.old).store (message_of kind) receiver arguments.now ≡ Iterates l → H.meaning heap.new ≡ unless_out (seen result) (H.meaning heap.new) (memory_after (first_visit p (H.meaning heap.old).store l) (H.meaning heap.old)) }
+    ensures memory { (p : Program) (l : State) → p.names ≡ names.now → loop_action p (H.meaning heap.old).store (message_of kind) receiver arguments.now ≡ Iterates l → H.meaning heap.new ≡ unless_out (seen result) (if gathers (message_of kind) then H.meaning heap.new else H.meaning heap.old) (memory_after (first_visit p (H.meaning heap.old).store l) (H.meaning heap.old)) }
     ensures step { (p : Program) (l : State) → p.names ≡ names.now → loop_action p (H.meaning heap.old).store (message_of kind) receiver arguments.now ≡ Iterates l → seen result ≡ unless_out (seen result) Out (told_of (first_visit p (H.meaning heap.old).store l) (H.meaning heap.old)) }
     ensures reserved { IsTrue H.reserved → is_out (seen result) ≡ false }
     ensures literals { H.literal_room heap.new ≡ H.literal_room heap.old }

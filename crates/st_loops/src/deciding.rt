@@ -30,7 +30,7 @@ pub fn detected_given<H: Heap>(
     requires measured { IsMeasured (H.meaning heap.old).store state.receiver }
     requires receiver { IsReceiver (H.meaning heap.old).store (message_of state.kind) state.receiver }
     requires elements { has_elements (message_of state.kind) ≡ true }
-    ensures memory { H.meaning heap.new ≡ unless_out (seen result) (H.meaning heap.new) (memory_after (if state.aside then Finishes given else (if is_true given then Finishes state.visited else visit_at (program_of names.now) (H.meaning heap.old).store (message_of state.kind) (at_index (state.index +ℤ pos 1) (state_of state)))) (H.meaning heap.old)) }
+    ensures memory { H.meaning heap.new ≡ unless_out (seen result) (H.meaning heap.old) (memory_after (if state.aside then Finishes given else (if is_true given then Finishes state.visited else visit_at (program_of names.now) (H.meaning heap.old).store (message_of state.kind) (at_index (state.index +ℤ pos 1) (state_of state)))) (H.meaning heap.old)) }
     ensures step { seen result ≡ unless_out (seen result) Out (told_of (if state.aside then Finishes given else (if is_true given then Finishes state.visited else visit_at (program_of names.now) (H.meaning heap.old).store (message_of state.kind) (at_index (state.index +ℤ pos 1) (state_of state)))) (H.meaning heap.old)) }
     ensures reserved { IsTrue H.reserved → is_out (seen result) ≡ false }
     ensures literals { H.literal_room heap.new ≡ H.literal_room heap.old }
@@ -49,7 +49,7 @@ pub fn any_given<H: Heap>(heap: &mut H, names: &Names, state: LoopState, given: 
     requires measured { IsMeasured (H.meaning heap.old).store state.receiver }
     requires receiver { IsReceiver (H.meaning heap.old).store (message_of state.kind) state.receiver }
     requires elements { has_elements (message_of state.kind) ≡ true }
-    ensures memory { H.meaning heap.new ≡ unless_out (seen result) (H.meaning heap.new) (memory_after (if is_true given then Finishes Value.True else visit_at (program_of names.now) (H.meaning heap.old).store (message_of state.kind) (at_index (state.index +ℤ pos 1) (state_of state))) (H.meaning heap.old)) }
+    ensures memory { H.meaning heap.new ≡ unless_out (seen result) (H.meaning heap.old) (memory_after (if is_true given then Finishes Value.True else visit_at (program_of names.now) (H.meaning heap.old).store (message_of state.kind) (at_index (state.index +ℤ pos 1) (state_of state))) (H.meaning heap.old)) }
     ensures step { seen result ≡ unless_out (seen result) Out (told_of (if is_true given then Finishes Value.True else visit_at (program_of names.now) (H.meaning heap.old).store (message_of state.kind) (at_index (state.index +ℤ pos 1) (state_of state))) (H.meaning heap.old)) }
     ensures reserved { IsTrue H.reserved → is_out (seen result) ≡ false }
     ensures literals { H.literal_room heap.new ≡ H.literal_room heap.old }
@@ -65,7 +65,7 @@ pub fn all_given<H: Heap>(heap: &mut H, names: &Names, state: LoopState, given: 
     requires measured { IsMeasured (H.meaning heap.old).store state.receiver }
     requires receiver { IsReceiver (H.meaning heap.old).store (message_of state.kind) state.receiver }
     requires elements { has_elements (message_of state.kind) ≡ true }
-    ensures memory { H.meaning heap.new ≡ unless_out (seen result) (H.meaning heap.new) (memory_after (if is_true given then visit_at (program_of names.now) (H.meaning heap.old).store (message_of state.kind) (at_index (state.index +ℤ pos 1) (state_of state)) else Finishes Value.False) (H.meaning heap.old)) }
+    ensures memory { H.meaning heap.new ≡ unless_out (seen result) (H.meaning heap.old) (memory_after (if is_true given then visit_at (program_of names.now) (H.meaning heap.old).store (message_of state.kind) (at_index (state.index +ℤ pos 1) (state_of state)) else Finishes Value.False) (H.meaning heap.old)) }
     ensures step { seen result ≡ unless_out (seen result) Out (told_of (if is_true given then visit_at (program_of names.now) (H.meaning heap.old).store (message_of state.kind) (at_index (state.index +ℤ pos 1) (state_of state)) else Finishes Value.False) (H.meaning heap.old)) }
     ensures reserved { IsTrue H.reserved → is_out (seen result) ≡ false }
     ensures literals { H.literal_room heap.new ≡ H.literal_room heap.old }

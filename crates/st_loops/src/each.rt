@@ -22,7 +22,7 @@ pub fn separated_given<H: Heap>(heap: &mut H, names: &Names, state: LoopState) -
     requires measured { IsMeasured (H.meaning heap.old).store state.receiver }
     requires receiver { IsReceiver (H.meaning heap.old).store (message_of state.kind) state.receiver }
     requires elements { has_elements (message_of state.kind) ≡ true }
-    ensures memory { H.meaning heap.new ≡ unless_out (seen result) (H.meaning heap.new) (memory_after (if state.aside then visit_at (program_of names.now) (H.meaning heap.old).store (message_of state.kind) (state_of state) else visit_at (program_of names.now) (H.meaning heap.old).store (message_of state.kind) (at_index (state.index +ℤ pos 1) (state_of state))) (H.meaning heap.old)) }
+    ensures memory { H.meaning heap.new ≡ unless_out (seen result) (H.meaning heap.old) (memory_after (if state.aside then visit_at (program_of names.now) (H.meaning heap.old).store (message_of state.kind) (state_of state) else visit_at (program_of names.now) (H.meaning heap.old).store (message_of state.kind) (at_index (state.index +ℤ pos 1) (state_of state))) (H.meaning heap.old)) }
     ensures step { seen result ≡ unless_out (seen result) Out (told_of (if state.aside then visit_at (program_of names.now) (H.meaning heap.old).store (message_of state.kind) (state_of state) else visit_at (program_of names.now) (H.meaning heap.old).store (message_of state.kind) (at_index (state.index +ℤ pos 1) (state_of state))) (H.meaning heap.old)) }
     ensures reserved { IsTrue H.reserved → is_out (seen result) ≡ false }
     ensures literals { H.literal_room heap.new ≡ H.literal_room heap.old }
@@ -38,7 +38,7 @@ pub fn downwards_given<H: Heap>(heap: &mut H, names: &Names, state: LoopState) -
     requires measured { IsMeasured (H.meaning heap.old).store state.receiver }
     requires receiver { IsReceiver (H.meaning heap.old).store (message_of state.kind) state.receiver }
     requires elements { has_elements (message_of state.kind) ≡ true }
-    ensures memory { H.meaning heap.new ≡ unless_out (seen result) (H.meaning heap.new) (memory_after (visit_at (program_of names.now) (H.meaning heap.old).store (message_of state.kind) (at_index (pos (min (natural_of state.index - 1) (size_of (program_of names.now) (H.meaning heap.old).store state.receiver))) (state_of state))) (H.meaning heap.old)) }
+    ensures memory { H.meaning heap.new ≡ unless_out (seen result) (H.meaning heap.old) (memory_after (visit_at (program_of names.now) (H.meaning heap.old).store (message_of state.kind) (at_index (pos (min (natural_of state.index - 1) (size_of (program_of names.now) (H.meaning heap.old).store state.receiver))) (state_of state))) (H.meaning heap.old)) }
     ensures step { seen result ≡ unless_out (seen result) Out (told_of (visit_at (program_of names.now) (H.meaning heap.old).store (message_of state.kind) (at_index (pos (min (natural_of state.index - 1) (size_of (program_of names.now) (H.meaning heap.old).store state.receiver))) (state_of state))) (H.meaning heap.old)) }
     ensures reserved { IsTrue H.reserved → is_out (seen result) ≡ false }
     ensures literals { H.literal_room heap.new ≡ H.literal_room heap.old }

@@ -40,7 +40,7 @@ fn has_text<H: Heap>(heap: &H, receiver: Value) -> bool
 
 // What `collect:` answers.
 fn answer_collected<H: Heap>(heap: &mut H, state: LoopState) -> LoopStep
-    ensures memory { H.meaning heap.new ≡ unless_out (seen result) (H.meaning heap.new) (memory_after (collected (H.meaning heap.old).store (state_of state)) (H.meaning heap.old)) }
+    ensures memory { H.meaning heap.new ≡ unless_out (seen result) (H.meaning heap.old) (memory_after (collected (H.meaning heap.old).store (state_of state)) (H.meaning heap.old)) }
     ensures step { seen result ≡ unless_out (seen result) Out (told_of (collected (H.meaning heap.old).store (state_of state)) (H.meaning heap.old)) }
     ensures reserved { IsTrue H.reserved → is_out (seen result) ≡ false }
     ensures literals { H.literal_room heap.new ≡ H.literal_room heap.old }
@@ -53,7 +53,7 @@ fn answer_collected<H: Heap>(heap: &mut H, state: LoopState) -> LoopStep
 
 // What `select:` and `reject:` answer.
 fn answer_selected<H: Heap>(heap: &mut H, state: LoopState) -> LoopStep
-    ensures memory { H.meaning heap.new ≡ unless_out (seen result) (H.meaning heap.new) (memory_after (selected (H.meaning heap.old).store (state_of state)) (H.meaning heap.old)) }
+    ensures memory { H.meaning heap.new ≡ unless_out (seen result) (H.meaning heap.old) (memory_after (selected (H.meaning heap.old).store (state_of state)) (H.meaning heap.old)) }
     ensures step { seen result ≡ unless_out (seen result) Out (told_of (selected (H.meaning heap.old).store (state_of state)) (H.meaning heap.old)) }
     ensures reserved { IsTrue H.reserved → is_out (seen result) ≡ false }
     ensures literals { H.literal_room heap.new ≡ H.literal_room heap.old }
@@ -93,7 +93,7 @@ fn apply_second(state: LoopState) -> LoopStep
 /// What a loop does where no element stands at its index.
 pub fn visit_end<H: Heap>(heap: &mut H, state: LoopState) -> LoopStep
     requires { IsReceiver (H.meaning heap.old).store (message_of state.kind) state.receiver }
-    ensures memory { H.meaning heap.new ≡ unless_out (seen result) (H.meaning heap.new) (memory_after (ended_at (H.meaning heap.old).store (message_of state.kind) (state_of state)) (H.meaning heap.old)) }
+    ensures memory { H.meaning heap.new ≡ unless_out (seen result) (H.meaning heap.old) (memory_after (ended_at (H.meaning heap.old).store (message_of state.kind) (state_of state)) (H.meaning heap.old)) }
     ensures step { seen result ≡ unless_out (seen result) Out (told_of (ended_at (H.meaning heap.old).store (message_of state.kind) (state_of state)) (H.meaning heap.old)) }
     ensures reserved { IsTrue H.reserved → is_out (seen result) ≡ false }
     ensures literals { H.literal_room heap.new ≡ H.literal_room heap.old }

@@ -47,7 +47,7 @@ fn blank_string<H: Heap>(heap: &mut H, count: u32) -> Result<u32, HeapStop>
 
 /// A new object of the slots of a collection.
 pub fn turn_into<H: Heap>(heap: &mut H, class: u32, made: Value) -> LoopStep
-    ensures memory { let m = H.meaning heap.old in let items = slots_of m.store made in H.meaning heap.new ≡ unless_out (seen result) (H.meaning heap.new) (memory_after (Charges (1 + length items) (with_new class items [] m.store) (Finishes (next_object m.store))) m) }
+    ensures memory { let m = H.meaning heap.old in let items = slots_of m.store made in H.meaning heap.new ≡ unless_out (seen result) m (memory_after (Charges (1 + length items) (with_new class items [] m.store) (Finishes (next_object m.store))) m) }
     ensures step { let m = H.meaning heap.old in let items = slots_of m.store made in seen result ≡ unless_out (seen result) Out (told_of (Charges (1 + length items) (with_new class items [] m.store) (Finishes (next_object m.store))) m) }
     ensures reserved { IsTrue H.reserved → is_out (seen result) ≡ false }
     ensures literals { H.literal_room heap.new ≡ H.literal_room heap.old }
@@ -66,7 +66,7 @@ pub fn turn_into<H: Heap>(heap: &mut H, class: u32, made: Value) -> LoopStep
 
 /// A new String of the Characters of a collection.
 pub fn turn_into_string<H: Heap>(heap: &mut H, made: Value) -> LoopStep
-    ensures memory { let m = H.meaning heap.old in let items = slots_of m.store made in H.meaning heap.new ≡ unless_out (seen result) (H.meaning heap.new) (memory_after (Charges (object_charge 0 (length items)) (with_new string_class [] (map byte_of items) m.store) (Finishes (next_object m.store))) m) }
+    ensures memory { let m = H.meaning heap.old in let items = slots_of m.store made in H.meaning heap.new ≡ unless_out (seen result) m (memory_after (Charges (object_charge 0 (length items)) (with_new string_class [] (map byte_of items) m.store) (Finishes (next_object m.store))) m) }
     ensures step { let m = H.meaning heap.old in let items = slots_of m.store made in seen result ≡ unless_out (seen result) Out (told_of (Charges (object_charge 0 (length items)) (with_new string_class [] (map byte_of items) m.store) (Finishes (next_object m.store))) m) }
     ensures reserved { IsTrue H.reserved → is_out (seen result) ≡ false }
     ensures literals { H.literal_room heap.new ≡ H.literal_room heap.old }

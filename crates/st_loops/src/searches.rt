@@ -63,7 +63,7 @@ fn take_out_at<H: Heap>(heap: &mut H, value: Value, place: u128)
 // Takes out the element that matched.
 fn remove_element<H: Heap>(heap: &mut H, state: LoopState, element: Value) -> LoopStep
     requires { HasRoom (H.meaning heap.old).store state.receiver }
-    ensures memory { H.meaning heap.new ≡ unless_out (seen result) (H.meaning heap.new) (memory_after (removed (H.meaning heap.old).store (state_of state) element) (H.meaning heap.old)) }
+    ensures memory { H.meaning heap.new ≡ unless_out (seen result) (H.meaning heap.old) (memory_after (removed (H.meaning heap.old).store (state_of state) element) (H.meaning heap.old)) }
     ensures step { seen result ≡ unless_out (seen result) Out (told_of (removed (H.meaning heap.old).store (state_of state) element) (H.meaning heap.old)) }
     ensures reserved { IsTrue H.reserved → is_out (seen result) ≡ false }
     ensures literals { H.literal_room heap.new ≡ H.literal_room heap.old }
@@ -91,7 +91,7 @@ fn value_at<H: Heap>(heap: &H, state: LoopState) -> Value
 // Takes out the key that matched and its value, and answers the value.
 fn remove_pair<H: Heap>(heap: &mut H, state: LoopState) -> LoopStep
     requires { HasRoom (H.meaning heap.old).store state.receiver }
-    ensures memory { H.meaning heap.new ≡ unless_out (seen result) (H.meaning heap.new) (memory_after (pair_removed (H.meaning heap.old).store (state_of state)) (H.meaning heap.old)) }
+    ensures memory { H.meaning heap.new ≡ unless_out (seen result) (H.meaning heap.old) (memory_after (pair_removed (H.meaning heap.old).store (state_of state)) (H.meaning heap.old)) }
     ensures step { seen result ≡ unless_out (seen result) Out (told_of (pair_removed (H.meaning heap.old).store (state_of state)) (H.meaning heap.old)) }
     ensures reserved { IsTrue H.reserved → is_out (seen result) ≡ false }
     ensures literals { H.literal_room heap.new ≡ H.literal_room heap.old }
@@ -119,7 +119,7 @@ fn write_value<H: Heap>(heap: &mut H, state: LoopState, value: Value)
 
 // Puts the second argument behind the key that matched, and answers it.
 fn put_value<H: Heap>(heap: &mut H, state: LoopState) -> LoopStep
-    ensures memory { H.meaning heap.new ≡ unless_out (seen result) (H.meaning heap.new) (memory_after (Charges 0 (set_value (H.meaning heap.old).store (state_of state) (second (values_of state.arguments))) (Finishes (second (values_of state.arguments)))) (H.meaning heap.old)) }
+    ensures memory { H.meaning heap.new ≡ unless_out (seen result) (H.meaning heap.old) (memory_after (Charges 0 (set_value (H.meaning heap.old).store (state_of state) (second (values_of state.arguments))) (Finishes (second (values_of state.arguments)))) (H.meaning heap.old)) }
     ensures step { seen result ≡ unless_out (seen result) Out (told_of (Charges 0 (set_value (H.meaning heap.old).store (state_of state) (second (values_of state.arguments))) (Finishes (second (values_of state.arguments)))) (H.meaning heap.old)) }
     ensures reserved { IsTrue H.reserved → is_out (seen result) ≡ false }
     ensures literals { H.literal_room heap.new ≡ H.literal_room heap.old }
@@ -133,7 +133,7 @@ fn put_value<H: Heap>(heap: &mut H, state: LoopState) -> LoopStep
 // What a search does with the element that matched.
 fn found<H: Heap>(heap: &mut H, state: LoopState, element: Value) -> LoopStep
     requires receiver { IsReceiver (H.meaning heap.old).store (message_of state.kind) state.receiver }
-    ensures memory { H.meaning heap.new ≡ unless_out (seen result) (H.meaning heap.new) (memory_after (found_at (H.meaning heap.old).store (message_of state.kind) (state_of state) element) (H.meaning heap.old)) }
+    ensures memory { H.meaning heap.new ≡ unless_out (seen result) (H.meaning heap.old) (memory_after (found_at (H.meaning heap.old).store (message_of state.kind) (state_of state) element) (H.meaning heap.old)) }
     ensures step { seen result ≡ unless_out (seen result) Out (told_of (found_at (H.meaning heap.old).store (message_of state.kind) (state_of state) element) (H.meaning heap.old)) }
     ensures reserved { IsTrue H.reserved → is_out (seen result) ≡ false }
     ensures literals { H.literal_room heap.new ≡ H.literal_room heap.old }
@@ -183,7 +183,7 @@ pub fn searched_given<H: Heap>(
     requires measured { IsMeasured (H.meaning heap.old).store state.receiver }
     requires receiver { IsReceiver (H.meaning heap.old).store (message_of state.kind) state.receiver }
     requires elements { has_elements (message_of state.kind) ≡ true }
-    ensures memory { H.meaning heap.new ≡ unless_out (seen result) (H.meaning heap.new) (memory_after (searched (program_of names.now) (H.meaning heap.old).store (state_of state) given) (H.meaning heap.old)) }
+    ensures memory { H.meaning heap.new ≡ unless_out (seen result) (H.meaning heap.old) (memory_after (searched (program_of names.now) (H.meaning heap.old).store (state_of state) given) (H.meaning heap.old)) }
     ensures step { seen result ≡ unless_out (seen result) Out (told_of (searched (program_of names.now) (H.meaning heap.old).store (state_of state) given) (H.meaning heap.old)) }
     ensures reserved { IsTrue H.reserved → is_out (seen result) ≡ false }
     ensures literals { H.literal_room heap.new ≡ H.literal_room heap.old }
@@ -206,7 +206,7 @@ pub fn counted_given<H: Heap>(
     requires receiver { IsReceiver (H.meaning heap.old).store (message_of state.kind) state.receiver }
     requires elements { has_elements (message_of state.kind) ≡ true }
     requires counted { integer_of state.made <ℤ state.index }
-    ensures memory { H.meaning heap.new ≡ unless_out (seen result) (H.meaning heap.new) (memory_after (counted (program_of names.now) (H.meaning heap.old).store (state_of state) given) (H.meaning heap.old)) }
+    ensures memory { H.meaning heap.new ≡ unless_out (seen result) (H.meaning heap.old) (memory_after (counted (program_of names.now) (H.meaning heap.old).store (state_of state) given) (H.meaning heap.old)) }
     ensures step { seen result ≡ unless_out (seen result) Out (told_of (counted (program_of names.now) (H.meaning heap.old).store (state_of state) given) (H.meaning heap.old)) }
     ensures reserved { IsTrue H.reserved → is_out (seen result) ≡ false }
     ensures literals { H.literal_room heap.new ≡ H.literal_room heap.old }

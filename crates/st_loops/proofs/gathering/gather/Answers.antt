@@ -6,8 +6,8 @@ use Rattle.st_collections.specs.Loops.{visit_at}
 use Rattle.st_collections.specs.SequenceRows.{with_elements}
 use Rattle.st_loops.specs.Kinds.{message_of}
 use Rattle.st_loops.specs.States.{at_index, state_of}
-use Rattle.st_loops.specs.Steps.{paid}
-use Rattle.st_loops.proofs.Charged.{full_memory, full_step, paid-is, within_limit}
+use Rattle.st_loops.specs.Steps.{paid, seen, stop_seen}
+use Rattle.st_loops.proofs.Charged.{any_out, full_memory, full_step, paid-is, within_limit}
 use Rattle.st_loops.proofs.Gathered.{measured-grown}
 use Rattle.st_loops.proofs.gathering.gather.Goals as goal
 
@@ -33,7 +33,7 @@ returns-in-Ok-clause-memory g c =
     let within : nat_le (m.used + gr.cells) m.limit ≡ true = within_limit tt tt gr.cells m c.in-Ok.ensures.answer in
     let is : m1 ≡ paid gr.cells gr.store m = paid-is gr.cells gr.store m m1 c.in-Ok.ensures.made within in
     let h = rw is at c.visit_further-in-Ok.ensures.memory in
-    rw (c.in-Object.is, within) (rw c.in-Object.is at h)
+    rw (c.in-Object.is, within) (any_out (seen c.visit_further-in-Ok.result) _ (g.H.Heap.meaning c.visit_further-in-Ok.new.heap) _ (rw c.in-Object.is at h))
 
 pub returns-in-Ok-clause-step : goal.returns-in-Ok-clause-step
 unfolding slots_of
@@ -56,7 +56,7 @@ returns-in-Err-clause-memory g c =
     let l = at_index (c.args.state.index +ℤ pos 1) (state_of c.args.state) in
     let v = visit_at (program_of c.args.names.now) gr.store (message_of c.args.state.kind) l in
     let h = full_memory tt c.in-Err.stop m (g.H.Heap.meaning c.append.new.heap) gr.cells gr.store gr.store v c.in-Err.ensures.made c.in-Err.ensures.answer in
-    rw (c.step_stop.ensures, c.in-Object.is) (rw c.in-Object.is at h)
+    rw (c.step_stop.ensures, c.in-Object.is) (any_out (stop_seen c.in-Err.stop) _ (g.H.Heap.meaning c.append.new.heap) _ (rw c.in-Object.is at h))
 
 pub returns-in-Err-clause-step : goal.returns-in-Err-clause-step
 unfolding slots_of
