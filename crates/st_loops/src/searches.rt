@@ -147,29 +147,7 @@ fn found<H: Heap>(heap: &mut H, state: LoopState, element: Value) -> LoopStep
         }
         LoopKind::AtPut => put_value(heap, state),
         LoopKind::RemoveKey | LoopKind::RemoveKeyIfAbsent => remove_pair(heap, state),
-        LoopKind::Includes
-        | LoopKind::IncludesKey
-        | LoopKind::OccurrencesOf
-        | LoopKind::Do
-        | LoopKind::DoSeparatedBy
-        | LoopKind::ReverseDo
-        | LoopKind::KeysAndValuesDo
-        | LoopKind::KeysDo
-        | LoopKind::InjectInto
-        | LoopKind::Detect
-        | LoopKind::DetectIfNone
-        | LoopKind::AnySatisfy
-        | LoopKind::AllSatisfy
-        | LoopKind::Collect
-        | LoopKind::Select
-        | LoopKind::Reject
-        | LoopKind::EqualElements
-        | LoopKind::WhileTrue
-        | LoopKind::WhileFalse
-        | LoopKind::TimesRepeat
-        | LoopKind::ToDo
-        | LoopKind::ToByDo
-        | LoopKind::NotEqual => LoopStep::Answer(Value::True),
+        _ => LoopStep::Answer(Value::True),
     }
 }
 

@@ -49,30 +49,6 @@ pub fn start<H: Heap>(
         },
         LoopKind::InjectInto => Some(fresh.made_to(arguments.first())),
         LoopKind::OccurrencesOf => Some(fresh.made_to(Value::Integer(0))),
-        LoopKind::TimesRepeat
-        | LoopKind::Do
-        | LoopKind::DoSeparatedBy
-        | LoopKind::KeysAndValuesDo
-        | LoopKind::KeysDo
-        | LoopKind::Detect
-        | LoopKind::DetectIfNone
-        | LoopKind::AnySatisfy
-        | LoopKind::AllSatisfy
-        | LoopKind::Collect
-        | LoopKind::Select
-        | LoopKind::Reject
-        | LoopKind::Includes
-        | LoopKind::IndexOf
-        | LoopKind::AddToSet
-        | LoopKind::Remove
-        | LoopKind::RemoveIfAbsent
-        | LoopKind::At
-        | LoopKind::AtIfAbsent
-        | LoopKind::AtPut
-        | LoopKind::AtIfAbsentPut
-        | LoopKind::IncludesKey
-        | LoopKind::RemoveKey
-        | LoopKind::RemoveKeyIfAbsent
-        | LoopKind::EqualElements => Some(fresh),
+        _ => Some(fresh),
     }
 }
