@@ -6,7 +6,7 @@ use Rattle.object_heap.specs.declared.heap.HeapStop.{HeapStop}
 use Rattle.object_heap.specs.declared.heap.HeapStop.TheVariants.{Limit, OutOfMemory}
 use Rattle.st_collections.specs.Actions.{Visit, Charges}
 use Rattle.st_collections.specs.Answers.{told}
-use Rattle.st_loops.specs.Steps.{Seen, Next, Out, Full, memory_after, paid, stop_seen, told_of, unless_out}
+use Rattle.st_loops.specs.Steps.{Seen, Next, Out, Full, is_out, memory_after, paid, stop_seen, told_of, unless_out}
 
 -- what a charge answers
 abbrev pub answer_for : {A : Type 0} → ℕ → A → Memory → Result A HeapStop
@@ -51,3 +51,9 @@ paid_after cells s v m e = rw e refl
 
 pub paid-is : (cells : ℕ) (s : Store) (m m' : Memory) → m' ≡ charged cells s m → nat_le (m.used + cells) m.limit ≡ true → m' ≡ paid cells s m
 paid-is cells s m m' e h = e ∙ (rw h refl)
+
+-- where memory was wanted, the memory is that before
+pub out_stays : (step : Seen) (m m' n : Memory) → m' ≡ unless_out step m n → is_out step ≡ true → m' ≡ m
+out_stays (Next v) m m' n e o = cc
+out_stays (Full used charge) m m' n e o = cc
+out_stays Out m m' n e o = e

@@ -1,5 +1,5 @@
 -- What a step of a loop tells of the loop's next visit, and what it leaves of the memory.
-use Rattle.std.specs.Prelude.{ℕ, ◌+◌, Bool, true, false, nat_le, if◌then◌else◌}
+use Rattle.std.specs.Prelude.{ℕ, ◌+◌, ◌≡◌, ◌⊎◌, Bool, true, false, nat_le, if◌then◌else◌}
 use Rattle.object_heap.specs.declared.heap.HeapStop.{HeapStop}
 use Rattle.object_heap.specs.declared.heap.HeapStop.TheVariants.{Limit, OutOfMemory}
 use Rattle.object_heap.specs.Store.{Store}
@@ -58,3 +58,15 @@ is_out (Full used charge) = false
 -- the first where a step tells want of memory, else the second
 abbrev pub unless_out : {A : Type 0} → Seen → A → A → A
 unless_out step out other = if is_out step then out else other
+
+-- the memory once a visit's first charge was paid
+abbrev pub once_paid : Visit → Memory → Memory
+once_paid (Charges cells s v) m = if nat_le (m.used + cells) m.limit then paid cells s m else m
+once_paid (Applies l v args) m = m
+once_paid (Compares l r v) m = m
+once_paid (Finishes v) m = m
+once_paid (Lacks l) m = m
+
+-- memory was wanted before the first charge or behind it
+abbrev pub IsPartway : Visit → Memory → Memory → Type 0
+IsPartway v m m' = (m' ≡ m) ⊎ (m' ≡ once_paid v m)

@@ -11,7 +11,7 @@ ghost use Rattle.st_loops.specs.Kinds.{message_of};
 ghost use Rattle.st_loops.specs.Requests.{HasPairs, IsKept, IsReceiver};
 ghost use Rattle.st_loops.specs.Searches.{searched};
 ghost use Rattle.st_loops.specs.States.{state_of, values_of};
-ghost use Rattle.st_loops.specs.Steps.{Next, Out, is_out, memory_after, seen, told_of, unless_out};
+ghost use Rattle.st_loops.specs.Steps.{Next, IsPartway, Out, is_out, memory_after, seen, told_of, unless_out};
 ghost use Rattle.st_loops.specs.Visits.{has_elements, with_pair};
 
 use crate::additions::add_pair;
@@ -78,6 +78,7 @@ fn step_by_names<H: Heap>(heap: &mut H, names: &Names, state: LoopState, given: 
     requires receiver { IsReceiver (H.meaning heap.old).store (message_of state.kind) state.receiver }
     requires kept { IsKept (H.meaning heap.old).store (message_of state.kind) (state_of state) }
     ensures memory { H.meaning heap.new ≡ unless_out (seen result) (if gathers (message_of state.kind) then H.meaning heap.new else H.meaning heap.old) (memory_after (given_at (program_of names.now) (H.meaning heap.old).store (message_of state.kind) (state_of state) given) (H.meaning heap.old)) }
+    ensures partway { gathers (message_of state.kind) ≡ true → is_out (seen result) ≡ true → IsPartway (given_at (program_of names.now) (H.meaning heap.old).store (message_of state.kind) (state_of state) given) (H.meaning heap.old) (H.meaning heap.new) }
     ensures step { seen result ≡ unless_out (seen result) Out (told_of (given_at (program_of names.now) (H.meaning heap.old).store (message_of state.kind) (state_of state) given) (H.meaning heap.old)) }
     ensures reserved { IsTrue H.reserved → is_out (seen result) ≡ false }
     ensures literals { H.literal_room heap.new ≡ H.literal_room heap.old }
@@ -134,6 +135,7 @@ pub fn advance<H: Heap>(heap: &mut H, names: &Names, state: LoopState, given: Va
     requires receiver { IsReceiver (H.meaning heap.old).store (message_of state.kind) state.receiver }
     requires kept { IsKept (H.meaning heap.old).store (message_of state.kind) (state_of state) }
     ensures memory { (p : Program) → p.names ≡ names.now → H.meaning heap.new ≡ unless_out (seen result) (if gathers (message_of state.kind) then H.meaning heap.new else H.meaning heap.old) (memory_after (next_visit p (H.meaning heap.old).store (state_of state) given) (H.meaning heap.old)) }
+    ensures partway { (p : Program) → p.names ≡ names.now → gathers (message_of state.kind) ≡ true → is_out (seen result) ≡ true → IsPartway (next_visit p (H.meaning heap.old).store (state_of state) given) (H.meaning heap.old) (H.meaning heap.new) }
     ensures step { (p : Program) → p.names ≡ names.now → seen result ≡ unless_out (seen result) Out (told_of (next_visit p (H.meaning heap.old).store (state_of state) given) (H.meaning heap.old)) }
     ensures reserved { IsTrue H.reserved → is_out (seen result) ≡ false }
     ensures literals { H.literal_room heap.new ≡ H.literal_room heap.old }

@@ -12,7 +12,7 @@ ghost use Rattle.st_loops.specs.Kinds.{message_of};
 ghost use Rattle.st_loops.specs.Requests.{IsReceiver};
 ghost use Rattle.st_loops.specs.Starts.{same_kind, started};
 ghost use Rattle.st_loops.specs.States.{state_of};
-ghost use Rattle.st_loops.specs.Steps.{Next, Out, is_out, memory_after, seen, told_of, unless_out};
+ghost use Rattle.st_loops.specs.Steps.{Next, IsPartway, Out, is_out, memory_after, seen, told_of, unless_out};
 ghost use Rattle.st_loops.specs.Visits.{has_elements};
 
 use crate::classes::ORDERED_COLLECTION;
@@ -42,6 +42,7 @@ fn visit_with_made<H: Heap>(heap: &mut H, names: &Names, state: LoopState) -> Lo
     requires measured { IsMeasured (H.meaning heap.old).store state.receiver }
     requires gathers { gathers (message_of state.kind) ≡ true }
     ensures memory { H.meaning heap.new ≡ unless_out (seen result) (H.meaning heap.new) (memory_after (with_made (program_of names.now) (H.meaning heap.old).store (state_of state)) (H.meaning heap.old)) }
+    ensures partway { is_out (seen result) ≡ true → IsPartway (with_made (program_of names.now) (H.meaning heap.old).store (state_of state)) (H.meaning heap.old) (H.meaning heap.new) }
     ensures step { seen result ≡ unless_out (seen result) Out (told_of (with_made (program_of names.now) (H.meaning heap.old).store (state_of state)) (H.meaning heap.old)) }
     ensures reserved { IsTrue H.reserved → is_out (seen result) ≡ false }
     ensures literals { H.literal_room heap.new ≡ H.literal_room heap.old }
@@ -103,6 +104,7 @@ fn first_step<H: Heap>(heap: &mut H, names: &Names, state: LoopState) -> LoopSte
     requires measured { IsMeasured (H.meaning heap.old).store state.receiver }
     requires receiver { IsReceiver (H.meaning heap.old).store (message_of state.kind) state.receiver }
     ensures memory { H.meaning heap.new ≡ unless_out (seen result) (if gathers (message_of state.kind) then H.meaning heap.new else H.meaning heap.old) (memory_after (first_of_message (program_of names.now) (H.meaning heap.old).store (message_of state.kind) (state_of state)) (H.meaning heap.old)) }
+    ensures partway { gathers (message_of state.kind) ≡ true → is_out (seen result) ≡ true → IsPartway (first_of_message (program_of names.now) (H.meaning heap.old).store (message_of state.kind) (state_of state)) (H.meaning heap.old) (H.meaning heap.new) }
     ensures step { seen result ≡ unless_out (seen result) Out (told_of (first_of_message (program_of names.now) (H.meaning heap.old).store (message_of state.kind) (state_of state)) (H.meaning heap.old)) }
     ensures reserved { IsTrue H.reserved → is_out (seen result) ≡ false }
     ensures literals { H.literal_room heap.new ≡ H.literal_room heap.old }
@@ -139,6 +141,7 @@ fn begin_by_names<H: Heap>(
     requires measured { IsMeasured (H.meaning heap.old).store receiver }
     requires receiver { IsReceiver (H.meaning heap.old).store (message_of kind) receiver }
     ensures memory { H.meaning heap.new ≡ unless_out (seen result) (if gathers (message_of kind) then H.meaning heap.new else H.meaning heap.old) (memory_after (first_of_message (program_of names.now) (H.meaning heap.old).store (message_of kind) (started (program_of names.now) (H.meaning heap.old).store (message_of kind) receiver arguments.now)) (H.meaning heap.old)) }
+    ensures partway { gathers (message_of kind) ≡ true → is_out (seen result) ≡ true → IsPartway (first_of_message (program_of names.now) (H.meaning heap.old).store (message_of kind) (started (program_of names.now) (H.meaning heap.old).store (message_of kind) receiver arguments.now)) (H.meaning heap.old) (H.meaning heap.new) }
     ensures step { seen result ≡ unless_out (seen result) Out (told_of (first_of_message (program_of names.now) (H.meaning heap.old).store (message_of kind) (started (program_of names.now) (H.meaning heap.old).store (message_of kind) receiver arguments.now)) (H.meaning heap.old)) }
     ensures reserved { IsTrue H.reserved → is_out (seen result) ≡ false }
     ensures literals { H.literal_room heap.new ≡ H.literal_room heap.old }
@@ -163,6 +166,7 @@ pub fn begin<H: Heap>(
     requires measured { IsMeasured (H.meaning heap.old).store receiver }
     requires receiver { IsReceiver (H.meaning heap.old).store (message_of kind) receiver }
     ensures memory { (p : Program) (l : State) → p.names ≡ names.now → loop_action p (H.meaning heap.old).store (message_of kind) receiver arguments.now ≡ Iterates l → H.meaning heap.new ≡ unless_out (seen result) (if gathers (message_of kind) then H.meaning heap.new else H.meaning heap.old) (memory_after (first_visit p (H.meaning heap.old).store l) (H.meaning heap.old)) }
+    ensures partway { (p : Program) (l : State) → p.names ≡ names.now → loop_action p (H.meaning heap.old).store (message_of kind) receiver arguments.now ≡ Iterates l → gathers (message_of kind) ≡ true → is_out (seen result) ≡ true → IsPartway (first_visit p (H.meaning heap.old).store l) (H.meaning heap.old) (H.meaning heap.new) }
     ensures step { (p : Program) (l : State) → p.names ≡ names.now → loop_action p (H.meaning heap.old).store (message_of kind) receiver arguments.now ≡ Iterates l → seen result ≡ unless_out (seen result) Out (told_of (first_visit p (H.meaning heap.old).store l) (H.meaning heap.old)) }
     ensures reserved { IsTrue H.reserved → is_out (seen result) ≡ false }
     ensures literals { H.literal_room heap.new ≡ H.literal_room heap.old }

@@ -8,7 +8,7 @@ ghost use Rattle.st_loops.specs.Gathering.{added, gathers};
 ghost use Rattle.st_loops.specs.Kinds.{message_of};
 ghost use Rattle.st_loops.specs.Requests.{HasGathered};
 ghost use Rattle.st_loops.specs.States.{at_index, state_of};
-ghost use Rattle.st_loops.specs.Steps.{Out, is_out, memory_after, seen, told_of, unless_out};
+ghost use Rattle.st_loops.specs.Steps.{IsPartway, Out, is_out, memory_after, seen, told_of, unless_out};
 
 use crate::growth::append;
 use crate::state::LoopState;
@@ -24,6 +24,7 @@ pub fn gather<H: Heap>(heap: &mut H, names: &Names, state: LoopState, value: Val
     requires gathers { gathers (message_of state.kind) ≡ true }
     requires made { HasGathered (H.meaning heap.old).store state.made }
     ensures memory { H.meaning heap.new ≡ unless_out (seen result) (H.meaning heap.new) (memory_after (added (program_of names.now) (H.meaning heap.old).store (state_of state) value) (H.meaning heap.old)) }
+    ensures partway { is_out (seen result) ≡ true → IsPartway (added (program_of names.now) (H.meaning heap.old).store (state_of state) value) (H.meaning heap.old) (H.meaning heap.new) }
     ensures step { seen result ≡ unless_out (seen result) Out (told_of (added (program_of names.now) (H.meaning heap.old).store (state_of state) value) (H.meaning heap.old)) }
     ensures reserved { IsTrue H.reserved → is_out (seen result) ≡ false }
     ensures literals { H.literal_room heap.new ≡ H.literal_room heap.old }
@@ -48,6 +49,7 @@ pub fn selected_given<H: Heap>(
     requires gathers { gathers (message_of state.kind) ≡ true }
     requires made { HasGathered (H.meaning heap.old).store state.made }
     ensures memory { H.meaning heap.new ≡ unless_out (seen result) (H.meaning heap.new) (memory_after (if is_true given then added (program_of names.now) (H.meaning heap.old).store (state_of state) state.visited else visit_at (program_of names.now) (H.meaning heap.old).store (message_of state.kind) (at_index (state.index +ℤ pos 1) (state_of state))) (H.meaning heap.old)) }
+    ensures partway { is_out (seen result) ≡ true → IsPartway (if is_true given then added (program_of names.now) (H.meaning heap.old).store (state_of state) state.visited else visit_at (program_of names.now) (H.meaning heap.old).store (message_of state.kind) (at_index (state.index +ℤ pos 1) (state_of state))) (H.meaning heap.old) (H.meaning heap.new) }
     ensures step { seen result ≡ unless_out (seen result) Out (told_of (if is_true given then added (program_of names.now) (H.meaning heap.old).store (state_of state) state.visited else visit_at (program_of names.now) (H.meaning heap.old).store (message_of state.kind) (at_index (state.index +ℤ pos 1) (state_of state))) (H.meaning heap.old)) }
     ensures reserved { IsTrue H.reserved → is_out (seen result) ≡ false }
     ensures literals { H.literal_room heap.new ≡ H.literal_room heap.old }
@@ -69,6 +71,7 @@ pub fn rejected_given<H: Heap>(
     requires gathers { gathers (message_of state.kind) ≡ true }
     requires made { HasGathered (H.meaning heap.old).store state.made }
     ensures memory { H.meaning heap.new ≡ unless_out (seen result) (H.meaning heap.new) (memory_after (if is_true given then visit_at (program_of names.now) (H.meaning heap.old).store (message_of state.kind) (at_index (state.index +ℤ pos 1) (state_of state)) else added (program_of names.now) (H.meaning heap.old).store (state_of state) state.visited) (H.meaning heap.old)) }
+    ensures partway { is_out (seen result) ≡ true → IsPartway (if is_true given then visit_at (program_of names.now) (H.meaning heap.old).store (message_of state.kind) (at_index (state.index +ℤ pos 1) (state_of state)) else added (program_of names.now) (H.meaning heap.old).store (state_of state) state.visited) (H.meaning heap.old) (H.meaning heap.new) }
     ensures step { seen result ≡ unless_out (seen result) Out (told_of (if is_true given then visit_at (program_of names.now) (H.meaning heap.old).store (message_of state.kind) (at_index (state.index +ℤ pos 1) (state_of state)) else added (program_of names.now) (H.meaning heap.old).store (state_of state) state.visited) (H.meaning heap.old)) }
     ensures reserved { IsTrue H.reserved → is_out (seen result) ≡ false }
     ensures literals { H.literal_room heap.new ≡ H.literal_room heap.old }

@@ -40,8 +40,8 @@ fn match_at<H: Heap>(heap: &mut H, names: &Names, state: LoopState, given: Value
     place_at(heap, names, state.receiver, state.index)
 }
 
-// The cells that are used are never past the limit.
-fn is_within_limit<H: Heap>(heap: &H)
+// That the cells used are never past the limit, which a charge of nothing asks for.
+fn limit_law<H: Heap>(heap: &H)
     ensures { (H.meaning heap.now).used ≤ (H.meaning heap.now).limit }
 {
     let _used = heap.used();
@@ -68,7 +68,7 @@ fn remove_element<H: Heap>(heap: &mut H, state: LoopState, element: Value) -> Lo
     ensures reserved { IsTrue H.reserved → is_out (seen result) ≡ false }
     ensures literals { H.literal_room heap.new ≡ H.literal_room heap.old }
 {
-    is_within_limit(heap);
+    limit_law(heap);
     take_out_at(
         heap,
         state.receiver,
@@ -96,7 +96,7 @@ fn remove_pair<H: Heap>(heap: &mut H, state: LoopState) -> LoopStep
     ensures reserved { IsTrue H.reserved → is_out (seen result) ≡ false }
     ensures literals { H.literal_room heap.new ≡ H.literal_room heap.old }
 {
-    is_within_limit(heap);
+    limit_law(heap);
     let value = value_at(heap, state);
     let twice = 2 * place_of(state.index);
     take_out_at(heap, state.receiver, twice.saturating_sub(1));
@@ -124,7 +124,7 @@ fn put_value<H: Heap>(heap: &mut H, state: LoopState) -> LoopStep
     ensures reserved { IsTrue H.reserved → is_out (seen result) ≡ false }
     ensures literals { H.literal_room heap.new ≡ H.literal_room heap.old }
 {
-    is_within_limit(heap);
+    limit_law(heap);
     let value = state.arguments.second();
     write_value(heap, state, value);
     LoopStep::Answer(value)

@@ -33,8 +33,8 @@ pub enum LoopStep {
         used: u32,
         charge: u128,
     },
-    /// The heap wanted memory. Nothing changed, but for `collect:`, `select:` and `reject:`, of which
-    /// the heap may hold one of the changes that they were charged for.
+    /// The heap wanted memory. Nothing changed, but that `collect:`, `select:` and `reject:` may
+    /// have taken the first of two charges.
     OutOfMemory,
 }
 

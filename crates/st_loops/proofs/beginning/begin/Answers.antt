@@ -7,3 +7,6 @@ returns-clause-memory g c = λ p l e stands. rw (first_visit-names p c.args.name
 
 pub returns-clause-step : goal.returns-clause-step
 returns-clause-step g c = λ p l e stands. rw (first_visit-names p c.args.names.now (g.H.Heap.meaning c.args.heap.now).store (message_of c.args.kind) c.args.receiver c.args.arguments.now l e stands) c.begin_by_names.ensures.step
+
+pub returns-clause-partway : goal.returns-clause-partway
+returns-clause-partway g c = λ p l e stands. rw (first_visit-names p c.args.names.now (g.H.Heap.meaning c.args.heap.now).store (message_of c.args.kind) c.args.receiver c.args.arguments.now l e stands) c.begin_by_names.ensures.partway

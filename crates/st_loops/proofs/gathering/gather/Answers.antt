@@ -1,4 +1,4 @@
-use Rattle.std.proofs.Common.{◌≡◌, ◌+◌, ◌∷◌, ◌++◌, [], ◌+ℤ◌, pos, true, nat_le}
+use Rattle.std.proofs.Common.{◌≡◌, ◌∙◌, inr, ◌+◌, ◌∷◌, ◌++◌, [], ◌+ℤ◌, pos, true, nat_le}
 use Rattle.object_heap.specs.Store.{object_at}
 use Rattle.st_collections.specs.Answers.{program_of}
 use Rattle.st_collections.specs.Kinds.{slots_of}
@@ -7,7 +7,7 @@ use Rattle.st_collections.specs.SequenceRows.{with_elements}
 use Rattle.st_loops.specs.Kinds.{message_of}
 use Rattle.st_loops.specs.States.{at_index, state_of}
 use Rattle.st_loops.specs.Steps.{paid, seen, stop_seen}
-use Rattle.st_loops.proofs.Charged.{any_out, full_memory, full_step, paid-is, within_limit}
+use Rattle.st_loops.proofs.Charged.{any_out, out_stays, full_memory, full_step, paid-is, within_limit}
 use Rattle.st_loops.proofs.Gathered.{measured-grown}
 use Rattle.st_loops.proofs.gathering.gather.Goals as goal
 
@@ -68,3 +68,16 @@ returns-in-Err-clause-step g c =
     let v = visit_at (program_of c.args.names.now) gr.store (message_of c.args.state.kind) l in
     let h = full_step tt c.in-Err.stop m gr.cells gr.store v c.in-Err.ensures.answer in
     rw (c.step_stop.ensures, c.in-Object.is) (rw c.in-Object.is at h)
+
+pub returns-in-Ok-clause-partway : goal.returns-in-Ok-clause-partway
+unfolding slots_of
+returns-in-Ok-clause-partway g c = λ out.
+    let m = g.H.Heap.meaning c.args.heap.now in
+    let m1 = g.H.Heap.meaning c.append.new.heap in
+    let m2 = g.H.Heap.meaning c.visit_further-in-Ok.new.heap in
+    let n = c.in-Object.object in
+    let gr = with_elements m.store n ((object_at n m.store).slots ++ c.args.value ∷ []) in
+    let within : nat_le (m.used + gr.cells) m.limit ≡ true = within_limit tt tt gr.cells m c.in-Ok.ensures.answer in
+    let is : m1 ≡ paid gr.cells gr.store m = paid-is gr.cells gr.store m m1 c.in-Ok.ensures.made within in
+    let stays : m2 ≡ m1 = out_stays (seen c.visit_further-in-Ok.result) m1 m2 _ c.visit_further-in-Ok.ensures.memory out in
+    rw (c.in-Object.is, within) (inr (stays ∙ is))
