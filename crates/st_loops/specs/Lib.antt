@@ -1,0 +1,11 @@
+pub mod Kinds
+pub mod States
+pub mod Steps
+pub mod Counts
+pub mod Visits
+pub mod Places
+pub mod Growth
+pub mod Requests
+pub mod Gathering
+pub mod Searches
+pub mod Starts

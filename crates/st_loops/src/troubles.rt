@@ -1,0 +1,56 @@
+// What is wrong with a loop message before it begins.
+ghost use Rattle.std.specs.Prelude.{◌≡◌, ◌≤◌, length};
+ghost use Rattle.object_heap.specs.Store.{Store};
+ghost use Rattle.object_heap.specs.declared.value.Value.{Value};
+ghost use Rattle.st_code.specs.Program.{Program};
+ghost use Rattle.st_collections.specs.Loops.{loop_action};
+ghost use Rattle.st_loops.specs.Kinds.{message_of};
+ghost use Rattle.st_loops.specs.Starts.{loop_trouble, step_trouble, stop_trouble, trouble_of};
+ghost use Rattle.st_loops.specs.States.{values_of};
+
+use crate::kind::LoopKind;
+use crate::state::Arguments;
+use object_heap::{Trouble, Value};
+
+fn stop_trouble(stop: Value) -> Option<Trouble>
+    ensures { result ≡ stop_trouble stop }
+{
+    match stop {
+        Value::Integer(_) => None,
+        _ => Some(Trouble::NumberExpected),
+    }
+}
+
+fn step_trouble(step: Value) -> Option<Trouble>
+    ensures { result ≡ step_trouble step }
+{
+    match step {
+        Value::Integer(0) => Some(Trouble::StepIsZero),
+        Value::Integer(_) => None,
+        _ => Some(Trouble::NumberExpected),
+    }
+}
+
+// What is wrong with the arguments of a loop message.
+fn loop_trouble(kind: LoopKind, arguments: Arguments) -> Option<Trouble>
+    ensures { result ≡ loop_trouble (message_of kind) (values_of arguments) }
+{
+    match kind {
+        LoopKind::ToDo => stop_trouble(arguments.first()),
+        LoopKind::ToByDo => match stop_trouble(arguments.first()) {
+            Some(trouble) => Some(trouble),
+            None => step_trouble(arguments.second()),
+        },
+        _ => None,
+    }
+}
+
+/// The trouble with a loop message other than `not found`, which comes before the loop begins: the
+/// stop or the step of `to:do:` or `to:by:do:` is no Integer, or the step is 0. There are at most
+/// three arguments.
+pub fn first_trouble(kind: LoopKind, arguments: &[Value]) -> Option<Trouble>
+    requires { length arguments.now ≤ 3 }
+    ensures { (p : Program) (s : Store) (receiver : Value) → result ≡ trouble_of (loop_action p s (message_of kind) receiver arguments.now) }
+{
+    loop_trouble(kind, Arguments::from_values(arguments))
+}
