@@ -1,0 +1,5 @@
+// Trees to code: what the machine runs for each body of a program. It takes the image of a program, and gives each method, initializer and block its code by number.
+#![tactic(auto)]
+
+mod lookup;
+mod step;
