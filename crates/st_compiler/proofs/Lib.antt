@@ -1,1 +1,3 @@
 pub mod Finding
+pub mod Classes
+pub mod Mentioned

@@ -1,2 +1,5 @@
 pub mod Steps
 pub mod Around
+pub mod Scopes
+pub mod Bytes
+pub mod Walked

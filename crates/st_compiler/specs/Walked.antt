@@ -1,0 +1,212 @@
+-- A walk over a body: what it adds to the instructions, bodies and names so far. Each expression, and each part of one, adds its own behind the others.
+use Rattle.std.specs.Prelude.{ℕ, suc, ◌+◌, Bool, true, false, not, ◌&&◌, List, [], ◌∷◌, ◌++◌, map, length, Option, Some, None, if◌then◌else◌}
+use Rattle.std.specs.List.{slice_set}
+use Rattle.st_code.specs.Texts.{Text}
+use Rattle.st_code.specs.Program.{Place, Kind, InMethod, InBlock, InInitializer}
+use Rattle.st_code.specs.Code.{Instr, PushConstant, PushSelf, Pop, Dup, PushVariable, Store, SendMessage, SendSuper, MakeBlock, return_of, end_code, empty_code}
+use Rattle.st_code.specs.Compiled.{kind_of}
+use Rattle.st_code.specs.Named.{Literal as NamedLiteral, NilLiteral, TrueLiteral, FalseLiteral, IntegerLiteral, CharacterLiteral, StringLiteral, SymbolLiteral, ArrayLiteral, Literals, no_literals, more_literals, NamedPrimary, NameOf, SelfName, SuperName, LiteralOf, BlockOf, ParenOf, NamedOperand, OperandOf, NamedOperands, no_operands, more_operands, NamedMessages, none_sent, then_sent, NamedExpr, ExprOf, NamedStatements, no_statements, more_statements}
+use Rattle.st_code.specs.Resolved.{Meant, At, Value', Context, inside, named, place_of, has_text, without, number_or_last, literal_made, is_one_sent, class_of_context}
+use Rattle.st_code.specs.Written.{NamedMessage, NamedStatement}
+use Rattle.st_compiler.specs.declared.draft.DraftBody.{DraftBody}
+use Rattle.st_compiler.specs.declared.draft.Frame.{Frame}
+use Rattle.st_compiler.specs.declared.draft.Draft.{Draft}
+use Rattle.st_compiler.specs.declared.draft.Status.{Status}
+use Rattle.st_compiler.specs.declared.draft.Status.TheVariants as status
+
+-- ---- additions
+
+abbrev pub with_steps : Draft → List Instr → Draft
+with_steps d is = record d { frame = record d.frame { steps = d.frame.steps ++ is } }
+
+abbrev pub with_step : Draft → Instr → Draft
+with_step d i = with_steps d (i ∷ [])
+
+-- names that stand in the body itself
+abbrev pub with_names : Draft → List Text → Draft
+with_names d ts = record d { frame = record d.frame { all = d.frame.all ++ ts } }
+
+-- names that stand in blocks of the body
+abbrev pub with_inner : Draft → List Text → Draft
+with_inner d ts = record d { frame = record d.frame { all = d.frame.all ++ ts; inner = d.frame.inner ++ ts } }
+
+-- ---- a name, a literal
+
+abbrev pub push_of : Meant → Instr
+push_of (At place) = PushVariable place
+push_of (Value' v) = PushConstant v
+
+abbrev pub name_walked : Context → Text → Draft → Draft
+name_walked x t d = with_step (with_names d (t ∷ [])) (push_of (named x t))
+
+-- how many objects a literal is
+abbrev mutual
+  pub objects_in : NamedLiteral → ℕ
+  objects_in NilLiteral = 0
+  objects_in TrueLiteral = 0
+  objects_in FalseLiteral = 0
+  objects_in (IntegerLiteral i) = 0
+  objects_in (CharacterLiteral byte) = 0
+  objects_in (StringLiteral t) = 1
+  objects_in (SymbolLiteral t) = 0
+  objects_in (ArrayLiteral row) = 1 + objects_in_row row
+
+  pub objects_in_row : Literals → ℕ
+  objects_in_row no_literals = 0
+  objects_in_row (more_literals l row) = objects_in l + objects_in_row row
+
+abbrev pub with_objects : Draft → ℕ → Draft
+with_objects d n = record d { objects = d.objects + n }
+
+abbrev pub literal_walked : List Text → NamedLiteral → Draft → Draft
+literal_walked names l d = with_objects (with_step d (PushConstant (literal_made names d.objects l).item)) (objects_in l)
+
+-- ---- messages
+
+abbrev pub send_of : (to_super : Bool) → (selector count : ℕ) → Instr
+send_of true selector count = SendSuper selector count
+send_of false selector count = SendMessage selector count
+
+abbrev pub operand_count : NamedOperands → ℕ
+operand_count no_operands = 0
+operand_count (more_operands o row) = suc (operand_count row)
+
+-- the receiver of a cascade is kept for the messages that follow
+abbrev pub dup_if : Bool → Draft → Draft
+dup_if true d = with_step d Dup
+dup_if false d = d
+
+abbrev pub pop_if : Bool → Draft → Draft
+pop_if true d = with_step d Pop
+pop_if false d = d
+
+abbrev pub sent_behind : Context → (to_super kept : Bool) → Text → NamedOperands → Draft → Draft
+sent_behind x to_super kept selector args d = pop_if kept (with_step d (send_of to_super (number_or_last x.names.names selector) (operand_count args)))
+
+-- a cascade behind an operand without messages
+abbrev pub chain_ended : (to_super kept : Bool) → NamedMessages → Draft → Draft
+chain_ended to_super true none_sent d = with_steps d (Dup ∷ send_of to_super 0 0 ∷ Pop ∷ [])
+chain_ended to_super true (then_sent selector args row) d = d
+chain_ended to_super false row d = d
+
+abbrev pub is_super : NamedPrimary → Bool
+is_super SuperName = true
+is_super primary = false
+
+abbrev pub is_short : NamedMessages → Bool
+is_short none_sent = true
+is_short (then_sent selector args row) = is_one_sent row
+
+-- the messages of a cascade behind it go to `super`
+abbrev pub is_direct : NamedOperand → Bool
+is_direct (OperandOf primary chain) = is_super primary && is_short chain
+
+-- ---- assignments
+
+abbrev pub stores : Context → List Text → List Instr
+stores x [] = []
+stores x (t ∷ ts) = stores x ts ++ Store (place_of (named x t)) ∷ []
+
+-- ---- statements
+
+-- where no statement came yet, where the last had no `^`, and behind a `^`
+abbrev pub end_of : Status → Kind → List Instr
+end_of status.Empty kind = empty_code kind
+end_of status.Open kind = end_code kind
+end_of status.Closed kind = []
+
+abbrev pub without_steps : Draft → Draft
+without_steps d = record d { frame = record d.frame { steps = [] } }
+
+abbrev pub separated : Status → Draft → Draft
+separated status.Empty d = d
+separated status.Open d = with_step d Pop
+separated status.Closed d = without_steps d
+
+abbrev pub status_after : Status → Bool → Status
+status_after status.Closed returns = status.Closed
+status_after s true = status.Closed
+status_after s false = status.Open
+
+abbrev pub returned : Kind → Bool → Draft → Draft
+returned kind true d = with_step d (return_of kind)
+returned kind false d = d
+
+abbrev pub statement_ended : Kind → Status → Bool → (before after : Draft) → Draft
+statement_ended kind status.Closed returns before after = record after { frame = record after.frame { steps = before.frame.steps } }
+statement_ended kind s returns before after = returned kind returns after
+
+-- ---- bodies
+
+abbrev pub no_frame : Frame
+no_frame = record { steps = []; all = []; inner = [] }
+
+-- a body with its own number, before those of its blocks
+abbrev pub body_draft : Kind → Context → Option ℕ → (parameters : ℕ) → List Bool → List Instr → DraftBody
+body_draft kind x outer parameters captured steps =
+    record { kind = kind_of kind; class = class_of_context x; parameters = parameters; captured = captured; outer = outer; steps = steps }
+
+abbrev pub body_begun : Kind → Context → Option ℕ → (parameters : ℕ) → Draft → Draft
+body_begun kind x outer parameters d = record d { bodies = d.bodies ++ body_draft kind x outer parameters [] [] ∷ []; frame = no_frame }
+
+abbrev pub body_ended : Kind → Context → Option ℕ → (parameters : ℕ) → (variables : List Text) → (before after : Draft) → Draft
+body_ended kind x outer parameters variables before after =
+    record after {
+      bodies = slice_set after.bodies (length before.bodies) (body_draft kind x outer parameters (map (has_text after.frame.inner) variables) after.frame.steps);
+      frame = before.frame;
+    }
+
+-- a block behind its body, which names these
+abbrev pub block_made : (code : ℕ) → List Text → Draft → Draft
+block_made code ts d = with_step (with_inner d ts) (MakeBlock code)
+
+abbrev mutual
+  pub primary_walked : Context → NamedPrimary → Draft → Draft
+  primary_walked x (NameOf t) d = name_walked x t d
+  primary_walked x SelfName d = with_step d PushSelf
+  primary_walked x SuperName d = with_step d PushSelf
+  primary_walked x (LiteralOf l) d = literal_walked x.names.names l d
+  primary_walked x (BlockOf parameters temporaries row) d =
+      let variables = parameters ++ temporaries in
+      let after = statements_walked (inside x (length d.bodies) variables) InBlock status.Empty row (body_begun InBlock x (Some x.code) (length parameters) d) in
+      block_made (length d.bodies) (without after.frame.all variables) (body_ended InBlock x (Some x.code) (length parameters) variables d after)
+  primary_walked x (ParenOf e) d = expr_walked x e d
+
+  -- a message to the first receiver, and further ones; with the flag a cascade follows the last
+  pub chain_walked : Context → (to_super kept : Bool) → NamedMessages → Draft → Draft
+  chain_walked x to_super kept none_sent d = d
+  chain_walked x to_super kept (then_sent selector args row) d =
+      let last = kept && is_one_sent row in
+      chain_walked x false kept row (sent_behind x to_super last selector args (operands_walked x args (dup_if last d)))
+
+  pub cascade_walked : Context → (to_super : Bool) → NamedMessages → Draft → Draft
+  cascade_walked x to_super none_sent d = d
+  cascade_walked x to_super (then_sent selector args row) d =
+      let more = not (is_one_sent row) in
+      cascade_walked x to_super row (sent_behind x to_super more selector args (operands_walked x args (dup_if more d)))
+
+  pub operands_walked : Context → NamedOperands → Draft → Draft
+  operands_walked x no_operands d = d
+  operands_walked x (more_operands o row) d = operands_walked x row (operand_walked x false o d)
+
+  pub operand_walked : Context → (kept : Bool) → NamedOperand → Draft → Draft
+  operand_walked x kept (OperandOf primary chain) d = chain_ended (is_super primary) kept chain (chain_walked x (is_super primary) kept chain (primary_walked x primary d))
+
+  pub expr_walked : Context → NamedExpr → Draft → Draft
+  expr_walked x (ExprOf targets o cascade) d =
+      with_steps (cascade_walked x (is_direct o) cascade (operand_walked x (not (is_one_sent cascade)) o (with_names d targets))) (stores x targets)
+
+  pub statements_walked : Context → Kind → Status → NamedStatements → Draft → Draft
+  statements_walked x kind s no_statements d = with_steps d (end_of s kind)
+  statements_walked x kind s (more_statements returns e row) d = statements_walked x kind (status_after s returns) row (statement_ended kind s returns d (expr_walked x e (separated s d)))
+
+abbrev pub message_walked : Context → (to_super kept : Bool) → NamedMessage → Draft → Draft
+message_walked x to_super kept m d = sent_behind x to_super kept m.selector m.arguments (operands_walked x m.arguments (dup_if kept d))
+
+abbrev pub statement_walked : Context → Kind → Status → NamedStatement → Draft → Draft
+statement_walked x kind s t d = statement_ended kind s t.returns d (expr_walked x t.expr (separated s d))
+
+-- a body's statements, and the draft behind the body
+abbrev pub body_walked : Context → Kind → (parameters temporaries : List Text) → NamedStatements → Option ℕ → Draft → Draft
+body_walked x kind parameters temporaries row outer d =
+    statements_walked (inside x (length d.bodies) (parameters ++ temporaries)) kind status.Empty row (body_begun kind x outer (length parameters) d)

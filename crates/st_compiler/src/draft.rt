@@ -1,0 +1,247 @@
+// The code of a program while it is made: bodies by number, and the one that is being walked.
+ghost use Rattle.std.specs.Prelude.{◌≡◌, [], ◌∷◌, ◌++◌, length, map, IfOk, OnOk};
+ghost use Rattle.st_code.specs.Written.{name_text};
+ghost use Rattle.st_code.specs.Resolved.{has_text, without, place_of};
+ghost use Rattle.st_compiler.specs.Around.{variables_of};
+ghost use Rattle.st_compiler.specs.Steps.{seen_place, seen_meaning, seen_step};
+ghost use Rattle.st_compiler.specs.Walked.{no_frame, with_step, with_steps, with_names, with_objects, name_walked, push_of, send_of, dup_if, pop_if, stores};
+
+use crate::around::Around;
+use crate::step::{Meaning, Place, Step, Steps};
+use object_heap::Value;
+use sqlite_items::Items;
+use st_base::OutOfMemory;
+use st_code::{CodeKind, Constant};
+use st_tree::tree::Name;
+use std::alloc::Global;
+use std::marker::Model;
+
+/// Names that are used, in the order of the text.
+#[derive(Drop)]
+pub(crate) struct Mentions<'a> {
+    names: Vec<&'a [u8]>,
+}
+
+impl<'a> Model for Mentions<'a> {
+    ghost use Rattle.std.specs.Prelude.{List, ℕ, map};
+    ghost use Rattle.st_compiler.specs.Bytes.{bytes_now};
+
+    ghost Value = { List (List ℕ) };
+
+    ghost view = { λ m. map bytes_now m.names.items };
+}
+
+impl<'a> Mentions<'a> {
+    pub(crate) fn new(alloc: Global) -> Mentions<'a>
+        ensures { result ≡ [] }
+    {
+        Mentions {
+            names: Vec::new(alloc),
+        }
+    }
+
+    pub(crate) fn push(&mut self, name: &'a [u8]) -> Result<(), OutOfMemory>
+        ensures { OnOk result (self.new ≡ self.old ++ name.now ∷ []) }
+    {
+        Ok(self.names.push(name)?)
+    }
+
+    /// Adds the names of an expression's targets.
+    pub(crate) fn push_all(&mut self, names: &'a [Name]) -> Result<(), OutOfMemory>
+        ensures { OnOk result (self.new ≡ self.old ++ map name_text names.now) }
+    {
+        for name in names {
+            self.push(name.text.as_bytes())?;
+        }
+        Ok(())
+    }
+
+    /// Adds all of the others.
+    pub(crate) fn extend(&mut self, others: &Mentions<'a>) -> Result<(), OutOfMemory>
+        ensures { OnOk result (self.new ≡ self.old ++ others.now) }
+    {
+        Ok(self.names.extend_from_slice(&others.names)?)
+    }
+
+    /// Whether the name is used.
+    pub(crate) fn contains(&self, text: &[u8]) -> bool
+        ensures { result ≡ has_text self.now text.now }
+    {
+        for name in self.names.as_slice() {
+            if *name == text {
+                return true;
+            }
+        }
+        false
+    }
+}
+
+/// A body so far. Its variables are marked and its instructions are put there at its end.
+#[derive(Drop)]
+pub(crate) struct DraftBody {
+    pub(crate) kind: CodeKind,
+    /// The class that it is written in, or its metaclass.
+    pub(crate) class: Value,
+    pub(crate) parameters: usize,
+    /// Of each variable, parameters first, whether a block inside names it.
+    pub(crate) captured: Items<bool>,
+    /// The body around a block.
+    pub(crate) outer: Option<u32>,
+    pub(crate) steps: Steps,
+}
+
+/// What the walk has of the body that it is in.
+#[derive(Drop)]
+pub(crate) struct Frame<'a> {
+    pub(crate) steps: Steps,
+    /// The names that are used and not declared by blocks inside.
+    pub(crate) all: Mentions<'a>,
+    /// Those of them that are used in blocks inside.
+    pub(crate) inner: Mentions<'a>,
+}
+
+impl<'a> Frame<'a> {
+    pub(crate) fn new(alloc: Global) -> Frame<'a>
+        ensures { result ≡ no_frame }
+    {
+        Frame {
+            steps: Steps::new(alloc),
+            all: Mentions::new(alloc),
+            inner: Mentions::new(alloc),
+        }
+    }
+}
+
+/// How far the statements of a body are: none yet, the last one without `^`, or behind a `^`.
+#[derive(Clone, Copy)]
+pub(crate) enum Status {
+    Empty,
+    Open,
+    Closed,
+}
+
+/// The code of a program while it is made.
+#[derive(Drop)]
+pub(crate) struct Draft<'a> {
+    pub(crate) alloc: Global,
+    /// The bodies by number, each before those of its blocks.
+    pub(crate) bodies: Items<DraftBody>,
+    /// How many objects the literals are.
+    pub(crate) objects: u32,
+    pub(crate) frame: Frame<'a>,
+}
+
+/// A number as one of 32 bits. A greater one counts as want of memory.
+pub(crate) fn narrow(number: usize) -> Result<u32, OutOfMemory>
+    ensures { IfOk result (λ n. n ≡ number) }
+{
+    if number > u32::MAX as usize {
+        return Err(OutOfMemory);
+    }
+    Ok(number as u32)
+}
+
+impl<'a> Draft<'a> {
+    pub(crate) fn push(&mut self, step: Step) -> Result<(), OutOfMemory>
+        ensures { OnOk result (self.new ≡ with_step self.old (seen_step step)) }
+    {
+        self.frame.steps.push(step)
+    }
+
+    /// Adds the names of targets.
+    pub(crate) fn mention_all(&mut self, names: &'a [Name]) -> Result<(), OutOfMemory>
+        ensures { OnOk result (self.new ≡ with_names self.old (map name_text names.now)) }
+    {
+        self.frame.all.push_all(names)
+    }
+
+    /// Adds the name of a variable.
+    pub(crate) fn mention(&mut self, name: &'a Name) -> Result<(), OutOfMemory>
+        ensures { OnOk result (self.new ≡ with_names self.old (name.now.text ∷ [])) }
+    {
+        self.frame.all.push(name.text.as_bytes())
+    }
+
+    /// A variable, a class or `Transcript` by its name.
+    pub(crate) fn name(&mut self, around: &Around<'a>, name: &'a Name) -> Result<(), OutOfMemory>
+        ensures { OnOk result (self.new ≡ name_walked around.now name.now.text self.old) }
+    {
+        self.mention(name)?;
+        self.push(push_of(around.meaning(name.text.as_bytes())))
+    }
+
+    /// Counts the objects of a literal.
+    pub(crate) fn count_objects(&mut self, count: u32) -> Result<(), OutOfMemory>
+        ensures { OnOk result (self.new ≡ with_objects self.old count) }
+    {
+        if count > u32::MAX - self.objects {
+            return Err(OutOfMemory);
+        }
+        self.objects += count;
+        Ok(())
+    }
+
+    /// Keeps the receiver of a cascade.
+    pub(crate) fn dup_if(&mut self, kept: bool) -> Result<(), OutOfMemory>
+        ensures { OnOk result (self.new ≡ dup_if kept self.old) }
+    {
+        if kept { self.push(Step::Dup) } else { Ok(()) }
+    }
+
+    /// Drops the answer of a cascade's message before the last.
+    pub(crate) fn pop_if(&mut self, kept: bool) -> Result<(), OutOfMemory>
+        ensures { OnOk result (self.new ≡ pop_if kept self.old) }
+    {
+        if kept { self.push(Step::Pop) } else { Ok(()) }
+    }
+
+    /// Stores a value in the targets, the last first.
+    pub(crate) fn store_all(
+        &mut self,
+        around: &Around<'a>,
+        names: &'a [Name],
+    ) -> Result<(), OutOfMemory>
+        ensures { OnOk result (self.new ≡ with_steps self.old (stores around.now (map name_text names.now))) }
+    {
+        let mut left = names.len();
+        while left > 0 {
+            left -= 1;
+            let name = &names[left];
+            self.push(Step::Store(place_of(around.meaning(name.text.as_bytes()))))?;
+        }
+        Ok(())
+    }
+}
+
+// The Push of what a name means.
+fn push_of(meaning: Meaning) -> Step
+    ensures { seen_step result ≡ push_of (seen_meaning meaning) }
+{
+    match meaning {
+        Meaning::At(place) => Step::PushVariable(place),
+        Meaning::Class(class) => Step::PushConstant(Constant::Class(class)),
+        Meaning::Transcript => Step::PushConstant(Constant::Transcript),
+    }
+}
+
+// The place of a variable, and the first place of the program's for any other name.
+fn place_of(meaning: Meaning) -> Place
+    ensures { seen_place result ≡ place_of (seen_meaning meaning) }
+{
+    match meaning {
+        Meaning::At(place) => place,
+        Meaning::Class(_) => Place::Shared(0),
+        Meaning::Transcript => Place::Shared(0),
+    }
+}
+
+/// A message to `super`, or to another receiver.
+pub(crate) fn send_of(to_super: bool, selector: u32, count: usize) -> Step
+    ensures { seen_step result ≡ send_of to_super selector count }
+{
+    if to_super {
+        Step::SuperSend { selector, count }
+    } else {
+        Step::Send { selector, count }
+    }
+}
