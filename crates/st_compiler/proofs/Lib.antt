@@ -1,3 +1,4 @@
 pub mod Finding
 pub mod Classes
 pub mod Mentioned
+pub mod Chains

@@ -4,7 +4,8 @@ use Rattle.std.specs.List.{slice_set}
 use Rattle.st_code.specs.Texts.{Text}
 use Rattle.st_code.specs.Program.{Place, Kind, InMethod, InBlock, InInitializer}
 use Rattle.st_code.specs.Code.{Instr, PushConstant, PushSelf, Pop, Dup, PushVariable, Store, SendMessage, SendSuper, MakeBlock, return_of, end_code, empty_code}
-use Rattle.st_code.specs.Compiled.{kind_of}
+use Rattle.st_code.specs.declared.instruction.CodeKind.{CodeKind}
+use Rattle.st_code.specs.declared.instruction.CodeKind.TheVariants as code_kind
 use Rattle.st_code.specs.Named.{Literal as NamedLiteral, NilLiteral, TrueLiteral, FalseLiteral, IntegerLiteral, CharacterLiteral, StringLiteral, SymbolLiteral, ArrayLiteral, Literals, no_literals, more_literals, NamedPrimary, NameOf, SelfName, SuperName, LiteralOf, BlockOf, ParenOf, NamedOperand, OperandOf, NamedOperands, no_operands, more_operands, NamedMessages, none_sent, then_sent, NamedExpr, ExprOf, NamedStatements, no_statements, more_statements}
 use Rattle.st_code.specs.Resolved.{Meant, At, Value', Context, inside, named, place_of, has_text, without, number_or_last, literal_made, is_one_sent, class_of_context}
 use Rattle.st_code.specs.Written.{NamedMessage, NamedStatement}
@@ -109,10 +110,15 @@ stores x (t ∷ ts) = stores x ts ++ Store (place_of (named x t)) ∷ []
 
 -- ---- statements
 
+abbrev pub of_kind : CodeKind → Kind
+of_kind code_kind.Method = InMethod
+of_kind code_kind.Block = InBlock
+of_kind code_kind.Initializer = InInitializer
+
 -- where no statement came yet, where the last had no `^`, and behind a `^`
-abbrev pub end_of : Status → Kind → List Instr
-end_of status.Empty kind = empty_code kind
-end_of status.Open kind = end_code kind
+abbrev pub end_of : Status → CodeKind → List Instr
+end_of status.Empty kind = empty_code (of_kind kind)
+end_of status.Open kind = end_code (of_kind kind)
 end_of status.Closed kind = []
 
 abbrev pub without_steps : Draft → Draft
@@ -128,11 +134,11 @@ status_after status.Closed returns = status.Closed
 status_after s true = status.Closed
 status_after s false = status.Open
 
-abbrev pub returned : Kind → Bool → Draft → Draft
-returned kind true d = with_step d (return_of kind)
+abbrev pub returned : CodeKind → Bool → Draft → Draft
+returned kind true d = with_step d (return_of (of_kind kind))
 returned kind false d = d
 
-abbrev pub statement_ended : Kind → Status → Bool → (before after : Draft) → Draft
+abbrev pub statement_ended : CodeKind → Status → Bool → (before after : Draft) → Draft
 statement_ended kind status.Closed returns before after = record after { frame = record after.frame { steps = before.frame.steps } }
 statement_ended kind s returns before after = returned kind returns after
 
@@ -142,14 +148,14 @@ abbrev pub no_frame : Frame
 no_frame = record { steps = []; all = []; inner = [] }
 
 -- a body with its own number, before those of its blocks
-abbrev pub body_draft : Kind → Context → Option ℕ → (parameters : ℕ) → List Bool → List Instr → DraftBody
+abbrev pub body_draft : CodeKind → Context → Option ℕ → (parameters : ℕ) → List Bool → List Instr → DraftBody
 body_draft kind x outer parameters captured steps =
-    record { kind = kind_of kind; class = class_of_context x; parameters = parameters; captured = captured; outer = outer; steps = steps }
+    record { kind = kind; class = class_of_context x; parameters = parameters; captured = captured; outer = outer; steps = steps }
 
-abbrev pub body_begun : Kind → Context → Option ℕ → (parameters : ℕ) → Draft → Draft
+abbrev pub body_begun : CodeKind → Context → Option ℕ → (parameters : ℕ) → Draft → Draft
 body_begun kind x outer parameters d = record d { bodies = d.bodies ++ body_draft kind x outer parameters [] [] ∷ []; frame = no_frame }
 
-abbrev pub body_ended : Kind → Context → Option ℕ → (parameters : ℕ) → (variables : List Text) → (before after : Draft) → Draft
+abbrev pub body_ended : CodeKind → Context → Option ℕ → (parameters : ℕ) → (variables : List Text) → (before after : Draft) → Draft
 body_ended kind x outer parameters variables before after =
     record after {
       bodies = slice_set after.bodies (length before.bodies) (body_draft kind x outer parameters (map (has_text after.frame.inner) variables) after.frame.steps);
@@ -168,8 +174,8 @@ abbrev mutual
   primary_walked x (LiteralOf l) d = literal_walked x.names.names l d
   primary_walked x (BlockOf parameters temporaries row) d =
       let variables = parameters ++ temporaries in
-      let after = statements_walked (inside x (length d.bodies) variables) InBlock status.Empty row (body_begun InBlock x (Some x.code) (length parameters) d) in
-      block_made (length d.bodies) (without after.frame.all variables) (body_ended InBlock x (Some x.code) (length parameters) variables d after)
+      let after = statements_walked (inside x (length d.bodies) variables) code_kind.Block status.Empty row (body_begun code_kind.Block x (Some x.code) (length parameters) d) in
+      block_made (length d.bodies) (without after.frame.all variables) (body_ended code_kind.Block x (Some x.code) (length parameters) variables d after)
   primary_walked x (ParenOf e) d = expr_walked x e d
 
   -- a message to the first receiver, and further ones; with the flag a cascade follows the last
@@ -196,17 +202,17 @@ abbrev mutual
   expr_walked x (ExprOf targets o cascade) d =
       with_steps (cascade_walked x (is_direct o) cascade (operand_walked x (not (is_one_sent cascade)) o (with_names d targets))) (stores x targets)
 
-  pub statements_walked : Context → Kind → Status → NamedStatements → Draft → Draft
+  pub statements_walked : Context → CodeKind → Status → NamedStatements → Draft → Draft
   statements_walked x kind s no_statements d = with_steps d (end_of s kind)
   statements_walked x kind s (more_statements returns e row) d = statements_walked x kind (status_after s returns) row (statement_ended kind s returns d (expr_walked x e (separated s d)))
 
 abbrev pub message_walked : Context → (to_super kept : Bool) → NamedMessage → Draft → Draft
 message_walked x to_super kept m d = sent_behind x to_super kept m.selector m.arguments (operands_walked x m.arguments (dup_if kept d))
 
-abbrev pub statement_walked : Context → Kind → Status → NamedStatement → Draft → Draft
+abbrev pub statement_walked : Context → CodeKind → Status → NamedStatement → Draft → Draft
 statement_walked x kind s t d = statement_ended kind s t.returns d (expr_walked x t.expr (separated s d))
 
 -- a body's statements, and the draft behind the body
-abbrev pub body_walked : Context → Kind → (parameters temporaries : List Text) → NamedStatements → Option ℕ → Draft → Draft
+abbrev pub body_walked : Context → CodeKind → (parameters temporaries : List Text) → NamedStatements → Option ℕ → Draft → Draft
 body_walked x kind parameters temporaries row outer d =
     statements_walked (inside x (length d.bodies) (parameters ++ temporaries)) kind status.Empty row (body_begun kind x outer (length parameters) d)

@@ -7,6 +7,7 @@ ghost use Rattle.st_compiler.specs.Steps.{seen_place, seen_meaning, seen_step};
 ghost use Rattle.st_compiler.specs.Walked.{no_frame, with_step, with_steps, with_names, with_objects, name_walked, push_of, send_of, dup_if, pop_if, stores};
 
 use crate::around::Around;
+use crate::lookup::name_place;
 use crate::step::{Meaning, Place, Step, Steps};
 use object_heap::Value;
 use sqlite_items::Items;
@@ -15,6 +16,20 @@ use st_code::{CodeKind, Constant};
 use st_tree::tree::Name;
 use std::alloc::Global;
 use std::marker::Model;
+
+// Whether one of the names has this text.
+fn has_name(names: &[Name], text: &[u8]) -> bool
+    ensures { result ≡ has_text (map name_text names.now) text.now }
+{
+    name_place(names, text).is_some()
+}
+
+// Whether one of these variables has this text as its name.
+fn is_declared(text: &[u8], parameters: &[Name], temporaries: &[Name]) -> bool
+    ensures { result ≡ has_text (variables_of parameters.now temporaries.now) text.now }
+{
+    has_name(parameters, text) || has_name(temporaries, text)
+}
 
 /// Names that are used, in the order of the text.
 #[derive(Drop)]
@@ -61,6 +76,62 @@ impl<'a> Mentions<'a> {
         ensures { OnOk result (self.new ≡ self.old ++ others.now) }
     {
         Ok(self.names.extend_from_slice(&others.names)?)
+    }
+
+    // Adds a name that these variables don't declare.
+    fn push_free(
+        &mut self,
+        name: &'a [u8],
+        parameters: &[Name],
+        temporaries: &[Name],
+    ) -> Result<(), OutOfMemory>
+        ensures { OnOk result (self.new ≡ self.old ++ without (name.now ∷ []) (variables_of parameters.now temporaries.now)) }
+    {
+        if is_declared(name, parameters, temporaries) {
+            return Ok(());
+        }
+        self.push(name)
+    }
+
+    /// The names that these variables don't declare.
+    pub(crate) fn without(
+        &self,
+        alloc: Global,
+        parameters: &[Name],
+        temporaries: &[Name],
+    ) -> Result<Mentions<'a>, OutOfMemory>
+        ensures { IfOk result (λ m. m ≡ without self.now (variables_of parameters.now temporaries.now)) }
+    {
+        let mut others = Mentions::new(alloc);
+        for name in self.names.as_slice() {
+            others.push_free(name, parameters, temporaries)?;
+        }
+        Ok(others)
+    }
+
+    // Marks each of the names that is used.
+    fn mark_all(&self, marks: &mut Items<bool>, names: &[Name]) -> Result<(), OutOfMemory>
+        ensures { OnOk result (marks.new ≡ marks.old ++ map (has_text self.now) (map name_text names.now)) }
+    {
+        for name in names {
+            marks.push(self.contains(name.text.as_bytes()))?;
+        }
+        Ok(())
+    }
+
+    /// Of each of these variables, whether its name is used.
+    pub(crate) fn marks(
+        &self,
+        alloc: Global,
+        parameters: &[Name],
+        temporaries: &[Name],
+    ) -> Result<Items<bool>, OutOfMemory>
+        ensures { IfOk result (λ marks. marks ≡ map (has_text self.now) (variables_of parameters.now temporaries.now)) }
+    {
+        let mut marks = Items::new(alloc);
+        self.mark_all(&mut marks, parameters)?;
+        self.mark_all(&mut marks, temporaries)?;
+        Ok(marks)
     }
 
     /// Whether the name is used.

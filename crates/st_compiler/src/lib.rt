@@ -5,3 +5,4 @@ mod around;
 mod draft;
 mod lookup;
 mod step;
+mod walk;

@@ -1,0 +1,10 @@
+use Rattle.std.proofs.Common.{[]}
+use Rattle.st_code.specs.Resolved.{without}
+use Rattle.st_compiler.specs.Around.{variables_of}
+use Rattle.st_compiler.specs.Bytes.{bytes_now}
+use Rattle.std.proofs.Common.{map}
+use Rattle.st_compiler.proofs.Mentioned.{without-next, without-end}
+use Rattle.st_compiler.proofs.draft.Mentions.without.Goals as goal
+
+pub loop-name-preserved : goal.loop-name-preserved
+loop-name-preserved c = without-next c.as_slice-name-items.result.now (record { ref_ptr = (0, 0); now = [] }) c.loop-name.name-index (variables_of c.args.parameters.now c.args.temporaries.now) c.loop-name.others c.push_free.new.self (without (map bytes_now c.as_slice-name-items.result.now) (variables_of c.args.parameters.now c.args.temporaries.now)) c.loop-name-test.true c.in_ok-push_free.ensures c.loop-name.invariant
