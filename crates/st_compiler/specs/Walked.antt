@@ -8,7 +8,8 @@ use Rattle.st_code.specs.declared.instruction.CodeKind.{CodeKind}
 use Rattle.st_code.specs.declared.instruction.CodeKind.TheVariants as code_kind
 use Rattle.st_code.specs.Named.{Literal as NamedLiteral, NilLiteral, TrueLiteral, FalseLiteral, IntegerLiteral, CharacterLiteral, StringLiteral, SymbolLiteral, ArrayLiteral, Literals, no_literals, more_literals, NamedPrimary, NameOf, SelfName, SuperName, LiteralOf, BlockOf, ParenOf, NamedOperand, OperandOf, NamedOperands, no_operands, more_operands, NamedMessages, none_sent, then_sent, NamedExpr, ExprOf, NamedStatements, no_statements, more_statements}
 use Rattle.st_code.specs.Resolved.{Meant, At, Value', Context, inside, named, place_of, has_text, without, number_or_last, literal_made, is_one_sent, class_of_context}
-use Rattle.st_code.specs.Written.{NamedMessage, NamedStatement}
+use Rattle.st_code.specs.Written.{NamedMessage, NamedStatement, NamedBlock}
+use Rattle.st_compiler.specs.declared.draft.Header.{Header}
 use Rattle.st_compiler.specs.declared.draft.DraftBody.{DraftBody}
 use Rattle.st_compiler.specs.declared.draft.Frame.{Frame}
 use Rattle.st_compiler.specs.declared.draft.Draft.{Draft}
@@ -124,6 +125,12 @@ end_of status.Closed kind = []
 abbrev pub without_steps : Draft → Draft
 without_steps d = record d { frame = record d.frame { steps = [] } }
 
+-- what is put aside while nothing more runs
+abbrev pub aside_of : Status → Draft → List Instr
+aside_of status.Empty d = []
+aside_of status.Open d = []
+aside_of status.Closed d = d.frame.steps
+
 abbrev pub separated : Status → Draft → Draft
 separated status.Empty d = d
 separated status.Open d = with_step d Pop
@@ -138,31 +145,30 @@ abbrev pub returned : CodeKind → Bool → Draft → Draft
 returned kind true d = with_step d (return_of (of_kind kind))
 returned kind false d = d
 
-abbrev pub statement_ended : CodeKind → Status → Bool → (before after : Draft) → Draft
-statement_ended kind status.Closed returns before after = record after { frame = record after.frame { steps = before.frame.steps } }
-statement_ended kind s returns before after = returned kind returns after
+abbrev pub statement_ended : CodeKind → Status → Bool → (aside : List Instr) → Draft → Draft
+statement_ended kind status.Closed returns aside d = record d { frame = record d.frame { steps = aside } }
+statement_ended kind s returns aside d = returned kind returns d
 
 -- ---- bodies
 
 abbrev pub no_frame : Frame
 no_frame = record { steps = []; all = []; inner = [] }
 
+abbrev pub header_of : CodeKind → Context → Option ℕ → (parameters : ℕ) → Header
+header_of kind x outer parameters = record { kind = kind; class = class_of_context x; parameters = parameters; outer = outer }
+
 -- a body with its own number, before those of its blocks
-abbrev pub body_draft : CodeKind → Context → Option ℕ → (parameters : ℕ) → List Bool → List Instr → DraftBody
-body_draft kind x outer parameters captured steps =
-    record { kind = kind; class = class_of_context x; parameters = parameters; captured = captured; outer = outer; steps = steps }
+abbrev pub body_draft : Header → List Bool → List Instr → DraftBody
+body_draft header captured steps = record { header = header; captured = captured; steps = steps }
 
-abbrev pub body_begun : CodeKind → Context → Option ℕ → (parameters : ℕ) → Draft → Draft
-body_begun kind x outer parameters d = record d { bodies = d.bodies ++ body_draft kind x outer parameters [] [] ∷ []; frame = no_frame }
+abbrev pub body_begun : Header → Draft → Draft
+body_begun header d = record d { bodies = d.bodies ++ body_draft header [] [] ∷ []; frame = no_frame }
 
-abbrev pub body_ended : CodeKind → Context → Option ℕ → (parameters : ℕ) → (variables : List Text) → (before after : Draft) → Draft
-body_ended kind x outer parameters variables before after =
-    record after {
-      bodies = slice_set after.bodies (length before.bodies) (body_draft kind x outer parameters (map (has_text after.frame.inner) variables) after.frame.steps);
-      frame = before.frame;
-    }
+abbrev pub body_ended : (code : ℕ) → Header → (variables : List Text) → (around : Frame) → Draft → Draft
+body_ended code header variables around d =
+    record d { bodies = slice_set d.bodies code (body_draft header (map (has_text d.frame.inner) variables) d.frame.steps); frame = around }
 
--- a block behind its body, which names these
+-- a block of this code, which names these
 abbrev pub block_made : (code : ℕ) → List Text → Draft → Draft
 block_made code ts d = with_step (with_inner d ts) (MakeBlock code)
 
@@ -174,8 +180,9 @@ abbrev mutual
   primary_walked x (LiteralOf l) d = literal_walked x.names.names l d
   primary_walked x (BlockOf parameters temporaries row) d =
       let variables = parameters ++ temporaries in
-      let after = statements_walked (inside x (length d.bodies) variables) code_kind.Block status.Empty row (body_begun code_kind.Block x (Some x.code) (length parameters) d) in
-      block_made (length d.bodies) (without after.frame.all variables) (body_ended code_kind.Block x (Some x.code) (length parameters) variables d after)
+      let header = header_of code_kind.Block x (Some x.code) (length parameters) in
+      let d1 = statements_walked (inside x (length d.bodies) variables) code_kind.Block status.Empty row (body_begun header d) in
+      block_made (length d.bodies) (without d1.frame.all variables) (body_ended (length d.bodies) header variables d.frame d1)
   primary_walked x (ParenOf e) d = expr_walked x e d
 
   -- a message to the first receiver, and further ones; with the flag a cascade follows the last
@@ -204,15 +211,28 @@ abbrev mutual
 
   pub statements_walked : Context → CodeKind → Status → NamedStatements → Draft → Draft
   statements_walked x kind s no_statements d = with_steps d (end_of s kind)
-  statements_walked x kind s (more_statements returns e row) d = statements_walked x kind (status_after s returns) row (statement_ended kind s returns d (expr_walked x e (separated s d)))
+  statements_walked x kind s (more_statements returns e row) d = statements_walked x kind (status_after s returns) row (statement_ended kind s returns (aside_of s d) (expr_walked x e (separated s d)))
 
 abbrev pub message_walked : Context → (to_super kept : Bool) → NamedMessage → Draft → Draft
 message_walked x to_super kept m d = sent_behind x to_super kept m.selector m.arguments (operands_walked x m.arguments (dup_if kept d))
 
 abbrev pub statement_walked : Context → CodeKind → Status → NamedStatement → Draft → Draft
-statement_walked x kind s t d = statement_ended kind s t.returns d (expr_walked x t.expr (separated s d))
+statement_walked x kind s t d = statement_ended kind s t.returns (aside_of s d) (expr_walked x t.expr (separated s d))
 
--- a body's statements, and the draft behind the body
-abbrev pub body_walked : Context → CodeKind → (parameters temporaries : List Text) → NamedStatements → Option ℕ → Draft → Draft
-body_walked x kind parameters temporaries row outer d =
-    statements_walked (inside x (length d.bodies) (parameters ++ temporaries)) kind status.Empty row (body_begun kind x outer (length parameters) d)
+-- the statements of a body that begins
+abbrev pub body_walked : CodeKind → Context → Option ℕ → (parameters temporaries : List Text) → NamedStatements → Draft → Draft
+body_walked kind x outer parameters temporaries row d =
+    statements_walked (inside x (length d.bodies) (parameters ++ temporaries)) kind status.Empty row (body_begun (header_of kind x outer (length parameters)) d)
+
+-- a whole body
+abbrev pub body_made_of : CodeKind → Context → Option ℕ → (parameters temporaries : List Text) → NamedStatements → Draft → Draft
+body_made_of kind x outer parameters temporaries row d =
+    body_ended (length d.bodies) (header_of kind x outer (length parameters)) (parameters ++ temporaries) d.frame (body_walked kind x outer parameters temporaries row d)
+
+-- the names that it leaves to the body around it
+abbrev pub body_names : CodeKind → Context → Option ℕ → (parameters temporaries : List Text) → NamedStatements → Draft → List Text
+body_names kind x outer parameters temporaries row d = without (body_walked kind x outer parameters temporaries row d).frame.all (parameters ++ temporaries)
+
+-- a block: its body, and what makes it
+abbrev pub block_walked : Context → NamedBlock → Draft → Draft
+block_walked x b d = primary_walked x (BlockOf b.parameters b.body.temporaries b.body.statements) d

@@ -1,10 +1,11 @@
 // The code of a program while it is made: bodies by number, and the one that is being walked.
-ghost use Rattle.std.specs.Prelude.{◌≡◌, [], ◌∷◌, ◌++◌, length, map, IfOk, OnOk};
+ghost use Rattle.std.specs.Prelude.{◌≡◌, [], ◌∷◌, ◌++◌, length, map, slice_set, IfOk, OnOk};
 ghost use Rattle.st_code.specs.Written.{name_text};
 ghost use Rattle.st_code.specs.Resolved.{has_text, without, place_of};
 ghost use Rattle.st_compiler.specs.Around.{variables_of};
 ghost use Rattle.st_compiler.specs.Steps.{seen_place, seen_meaning, seen_step};
-ghost use Rattle.st_compiler.specs.Walked.{no_frame, with_step, with_steps, with_names, with_objects, name_walked, push_of, send_of, dup_if, pop_if, stores};
+ghost use Rattle.st_compiler.specs.Walked.{no_frame, with_step, with_steps, with_names, with_objects, name_walked, push_of, send_of, dup_if, pop_if, stores, of_kind, status_after, body_begun, body_ended, block_made, aside_of, separated, statement_ended, end_of};
+ghost use Rattle.st_code.specs.Code.{return_of, empty_code, end_code};
 
 use crate::around::Around;
 use crate::lookup::name_place;
@@ -16,6 +17,7 @@ use st_code::{CodeKind, Constant};
 use st_tree::tree::Name;
 use std::alloc::Global;
 use std::marker::Model;
+use std::mem;
 
 // Whether one of the names has this text.
 fn has_name(names: &[Name], text: &[u8]) -> bool
@@ -147,17 +149,23 @@ impl<'a> Mentions<'a> {
     }
 }
 
-/// A body so far. Its variables are marked and its instructions are put there at its end.
-#[derive(Drop)]
-pub(crate) struct DraftBody {
+/// What a body is the body of.
+#[derive(Clone, Copy)]
+pub(crate) struct Header {
     pub(crate) kind: CodeKind,
     /// The class that it is written in, or its metaclass.
     pub(crate) class: Value,
     pub(crate) parameters: usize,
-    /// Of each variable, parameters first, whether a block inside names it.
-    pub(crate) captured: Items<bool>,
     /// The body around a block.
     pub(crate) outer: Option<u32>,
+}
+
+/// A body so far. Its variables are marked and its instructions are put there at its end.
+#[derive(Drop)]
+pub(crate) struct DraftBody {
+    pub(crate) header: Header,
+    /// Of each variable, parameters first, whether a block inside names it.
+    pub(crate) captured: Items<bool>,
     pub(crate) steps: Steps,
 }
 
@@ -314,5 +322,170 @@ pub(crate) fn send_of(to_super: bool, selector: u32, count: usize) -> Step
         Step::SuperSend { selector, count }
     } else {
         Step::Send { selector, count }
+    }
+}
+
+/// The answer behind a `^`.
+fn return_of(kind: CodeKind) -> Step
+    ensures { seen_step result ≡ return_of (of_kind kind) }
+{
+    match kind {
+        CodeKind::Method => Step::MethodReturn,
+        CodeKind::Block => Step::HomeReturn,
+        CodeKind::Initializer => Step::BlockEnd,
+    }
+}
+
+/// How far the statements are behind one more.
+pub(crate) fn status_after(status: Status, returns: bool) -> Status
+    ensures { result ≡ status_after status returns }
+{
+    match status {
+        Status::Closed => Status::Closed,
+        Status::Empty | Status::Open => {
+            if returns {
+                Status::Closed
+            } else {
+                Status::Open
+            }
+        }
+    }
+}
+
+// Puts a body in its place, where there is one.
+fn put_body(bodies: &mut Items<DraftBody>, code: u32, body: DraftBody)
+    ensures { bodies.new ≡ slice_set bodies.old code body }
+{
+    if (code as usize) < bodies.len() {
+        bodies.set(code as usize, body);
+    }
+}
+
+impl<'a> Draft<'a> {
+    /// Begins a body with the next number, and gives what there was of the one around it.
+    pub(crate) fn begin(&mut self, header: Header) -> Result<Frame<'a>, OutOfMemory>
+        ensures around { IfOk result (λ f. f ≡ self.old.frame) }
+        ensures begun { OnOk result (self.new ≡ body_begun header self.old) }
+    {
+        self.bodies.push(DraftBody {
+            header,
+            captured: Items::new(self.alloc),
+            steps: Steps::new(self.alloc),
+        })?;
+        Ok(mem::replace(&mut self.frame, Frame::new(self.alloc)))
+    }
+
+    /// Ends a body, and goes on with the one around it.
+    pub(crate) fn end(
+        &mut self,
+        code: u32,
+        header: Header,
+        parameters: &[Name],
+        temporaries: &[Name],
+        around: Frame<'a>,
+    ) -> Result<(), OutOfMemory>
+        ensures { OnOk result (self.new ≡ body_ended code header (variables_of parameters.now temporaries.now) around.entry self.old) }
+    {
+        let captured = self.frame.inner.marks(self.alloc, parameters, temporaries)?;
+        let Frame { steps, .. } = mem::replace(&mut self.frame, around);
+        let body = DraftBody {
+            header,
+            captured,
+            steps,
+        };
+        put_body(&mut self.bodies, code, body);
+        Ok(())
+    }
+
+    /// A block of this code, which names these.
+    pub(crate) fn make_block(&mut self, code: u32, names: &Mentions<'a>) -> Result<(), OutOfMemory>
+        ensures { OnOk result (self.new ≡ block_made code names.now self.old) }
+    {
+        self.frame.all.extend(names)?;
+        self.frame.inner.extend(names)?;
+        self.push(Step::MakeBlock(code))
+    }
+
+    /// Makes ready for a statement: behind a `^` nothing runs, and what was there is given aside.
+    pub(crate) fn separate(&mut self, status: Status) -> Result<Steps, OutOfMemory>
+        ensures aside { IfOk result (λ s. s ≡ aside_of status self.old) }
+        ensures separated { OnOk result (self.new ≡ separated status self.old) }
+    {
+        match status {
+            Status::Empty => Ok(Steps::new(self.alloc)),
+            Status::Open => {
+                self.push(Step::Pop)?;
+                Ok(Steps::new(self.alloc))
+            }
+            Status::Closed => Ok(mem::replace(&mut self.frame.steps, Steps::new(self.alloc))),
+        }
+    }
+
+    /// Ends a statement.
+    pub(crate) fn end_statement(
+        &mut self,
+        kind: CodeKind,
+        status: Status,
+        returns: bool,
+        aside: Steps,
+    ) -> Result<(), OutOfMemory>
+        ensures { OnOk result (self.new ≡ statement_ended kind status returns aside self.old) }
+    {
+        match status {
+            Status::Closed => {
+                self.frame.steps = aside;
+                Ok(())
+            }
+            Status::Empty | Status::Open => {
+                if returns {
+                    self.push(return_of(kind))
+                } else {
+                    Ok(())
+                }
+            }
+        }
+    }
+
+    /// The instructions behind the last statement.
+    pub(crate) fn end_statements(
+        &mut self,
+        kind: CodeKind,
+        status: Status,
+    ) -> Result<(), OutOfMemory>
+        ensures { OnOk result (self.new ≡ with_steps self.old (end_of status kind)) }
+    {
+        match status {
+            Status::Empty => self.end_empty(kind),
+            Status::Open => self.end_open(kind),
+            Status::Closed => Ok(()),
+        }
+    }
+
+    fn end_empty(&mut self, kind: CodeKind) -> Result<(), OutOfMemory>
+        ensures { OnOk result (self.new ≡ with_steps self.old (empty_code (of_kind kind))) }
+    {
+        match kind {
+            CodeKind::Method => {
+                self.push(Step::PushSelf)?;
+                self.push(Step::MethodReturn)
+            }
+            CodeKind::Block | CodeKind::Initializer => {
+                self.push(Step::PushConstant(Constant::Nil))?;
+                self.push(Step::BlockEnd)
+            }
+        }
+    }
+
+    fn end_open(&mut self, kind: CodeKind) -> Result<(), OutOfMemory>
+        ensures { OnOk result (self.new ≡ with_steps self.old (end_code (of_kind kind))) }
+    {
+        match kind {
+            CodeKind::Method => {
+                self.push(Step::Pop)?;
+                self.push(Step::PushSelf)?;
+                self.push(Step::MethodReturn)
+            }
+            CodeKind::Block | CodeKind::Initializer => self.push(Step::BlockEnd),
+        }
     }
 }

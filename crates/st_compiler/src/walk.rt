@@ -1,21 +1,16 @@
 // The walk over the tree of a body, which makes its code (ANSI NCITS 319, 3.4).
-ghost use Rattle.std.specs.Prelude.{◌≡◌, map, IfOk, OnOk, length};
-ghost use Rattle.st_code.specs.Code.{return_of, empty_code, end_code};
-ghost use Rattle.st_code.specs.Resolved.{literal_made, class_of_context};
+ghost use Rattle.std.specs.Prelude.{◌≡◌, ◌==◌, ◌&&◌, not, map, IfOk, OnOk};
+ghost use Rattle.st_code.specs.Resolved.{literal_made, is_one_sent};
 ghost use Rattle.st_code.specs.Compiled.{constant_value};
-ghost use Rattle.st_code.specs.Written.{named_literal, literal_row, name_text, named_primary, named_statement, named_block, named_body, named_expr, named_message, named_operand, named_messages, named_operands, named_statements};
-ghost use Rattle.st_compiler.specs.Around.{variables_of};
+ghost use Rattle.st_code.specs.Written.{named_literal, name_text, named_primary, named_statement, named_block, named_body, named_expr, named_message, named_operand, named_messages, named_statements};
 ghost use Rattle.st_compiler.specs.Walked as walked;
 
 use crate::around::Around;
-use crate::draft::{Draft, DraftBody, Frame, Mentions, Status, narrow, send_of};
-use crate::step::{Step, Steps};
-use object_heap::Value;
-use sqlite_items::Items;
+use crate::draft::{Draft, Header, Mentions, Status, narrow, send_of, status_after};
+use crate::step::Step;
 use st_base::OutOfMemory;
 use st_code::{CodeKind, Constant};
 use st_tree::tree::{Block, Body, Expr, Literal, Message, Name, Operand, Primary, Statement};
-use std::alloc::Global;
 
 // How many objects a literal is. It recurses as deep as the literal nests.
 fn objects_in(literal: &Literal) -> Result<u32, OutOfMemory>
@@ -79,6 +74,28 @@ fn is_direct(operand: &Operand) -> bool
     is_super(&operand.primary) && operand.chain.len() <= 1
 }
 
+fn has_messages(messages: &[Message]) -> bool
+    ensures { result ≡ not (is_one_sent (named_messages messages.now)) }
+{
+    messages.first().is_some()
+}
+
+// Whether a cascade follows the last message.
+fn is_last(kept: bool, left: usize) -> bool
+    ensures { result ≡ (kept && (left == 0)) }
+{
+    if kept { left == 0 } else { false }
+}
+
+fn is_return(statement: &Statement) -> bool
+    ensures { result ≡ (named_statement statement.now).returns }
+{
+    match statement {
+        Statement::Value(_) => false,
+        Statement::Return(_) => true,
+    }
+}
+
 impl<'a> Draft<'a> {
     fn literal(&mut self, around: &Around<'a>, literal: &Literal) -> Result<(), OutOfMemory>
         ensures { OnOk result (self.new ≡ walked.literal_walked around.now.names.names (named_literal literal.now) self.old) }
@@ -107,25 +124,179 @@ impl<'a> Draft<'a> {
         self.push(Step::Pop)
     }
 
-    // Begins a body with a number of its own.
-    fn begin(
+    #[cycle(walk)]
+    fn primary(&mut self, around: &Around<'a>, primary: &'a Primary) -> Result<(), OutOfMemory>
+        ensures { OnOk result (self.new ≡ walked.primary_walked around.now (named_primary primary.now) self.old) }
+    {
+        match primary {
+            Primary::Variable(name) => self.name(around, name),
+            Primary::SelfValue => self.push(Step::PushSelf),
+            Primary::SuperValue => self.push(Step::PushSelf),
+            Primary::Literal(literal) => self.literal(around, literal),
+            Primary::Block(block) => self.block(around, block),
+            Primary::Paren(expr) => self.expr(around, expr.get()),
+        }
+    }
+
+    #[cycle(walk)]
+    fn block(&mut self, around: &Around<'a>, block: &'a Block) -> Result<(), OutOfMemory>
+        ensures { OnOk result (self.new ≡ walked.block_walked around.now (named_block block.now) self.old) }
+    {
+        let code = narrow(self.bodies.len())?;
+        let parameters = block.parameters.as_slice();
+        let outer = Some(around.code());
+        let names = self.body(around, CodeKind::Block, outer, parameters, &block.body)?;
+        self.make_block(code, &names)
+    }
+
+    /// A body, with the parameters that stand before it. The names are those that it leaves to the
+    /// body around it.
+    #[cycle(walk)]
+    pub(crate) fn body(
         &mut self,
         around: &Around<'a>,
-        outer: Option<u32>,
         kind: CodeKind,
-        parameters: usize,
-    ) -> Result<(), OutOfMemory>
-        ensures { OnOk result (self.new ≡ walked.body_begun kind around.now outer parameters self.old) }
+        outer: Option<u32>,
+        parameters: &'a [Name],
+        body: &'a Body,
+    ) -> Result<Mentions<'a>, OutOfMemory>
+        ensures names { IfOk result (λ m. m ≡ walked.body_names kind around.now outer (map name_text parameters.now) (named_body body.now).temporaries (named_body body.now).statements self.old) }
+        ensures made { OnOk result (self.new ≡ walked.body_made_of kind around.now outer (map name_text parameters.now) (named_body body.now).temporaries (named_body body.now).statements self.old) }
     {
-        self.bodies.push(DraftBody {
+        let code = narrow(self.bodies.len())?;
+        let temporaries = body.temporaries.as_slice();
+        let within = around.inside(self.alloc, code, parameters, temporaries)?;
+        let header = Header {
             kind,
             class: around.class(),
-            parameters,
-            captured: Items::new(self.alloc),
+            parameters: parameters.len(),
             outer,
-            steps: Steps::new(self.alloc),
-        })?;
-        self.frame = Frame::new(self.alloc);
+        };
+        let frame = self.begin(header)?;
+        self.statements(&within, kind, body.statements.as_slice())?;
+        let names = self.frame.all.without(self.alloc, parameters, temporaries)?;
+        self.end(code, header, parameters, temporaries, frame)?;
+        Ok(names)
+    }
+
+    #[cycle(walk)]
+    fn operand(
+        &mut self,
+        around: &Around<'a>,
+        kept: bool,
+        operand: &'a Operand,
+    ) -> Result<(), OutOfMemory>
+        ensures { OnOk result (self.new ≡ walked.operand_walked around.now kept (named_operand operand.now) self.old) }
+    {
+        self.primary(around, &operand.primary)?;
+        let to_super = is_super(&operand.primary);
+        self.chain(around, to_super, kept, operand.chain.as_slice())?;
+        self.end_chain(to_super, kept, operand.chain.as_slice())
+    }
+
+    #[cycle(walk)]
+    fn chain(
+        &mut self,
+        around: &Around<'a>,
+        to_super: bool,
+        kept: bool,
+        chain: &'a [Message],
+    ) -> Result<(), OutOfMemory>
+        ensures { OnOk result (self.new ≡ walked.chain_walked around.now to_super kept (named_messages chain.now) self.old) }
+    {
+        let mut direct = to_super;
+        let mut left = chain.len();
+        for message in chain {
+            left -= 1;
+            self.message(around, direct, is_last(kept, left), message)?;
+            direct = false;
+        }
         Ok(())
+    }
+
+    #[cycle(walk)]
+    fn cascade(
+        &mut self,
+        around: &Around<'a>,
+        to_super: bool,
+        cascade: &'a [Message],
+    ) -> Result<(), OutOfMemory>
+        ensures { OnOk result (self.new ≡ walked.cascade_walked around.now to_super (named_messages cascade.now) self.old) }
+    {
+        let mut left = cascade.len();
+        for message in cascade {
+            left -= 1;
+            self.message(around, to_super, left > 0, message)?;
+        }
+        Ok(())
+    }
+
+    #[cycle(walk)]
+    fn message(
+        &mut self,
+        around: &Around<'a>,
+        to_super: bool,
+        kept: bool,
+        message: &'a Message,
+    ) -> Result<(), OutOfMemory>
+        ensures { OnOk result (self.new ≡ walked.message_walked around.now to_super kept (named_message message.now) self.old) }
+    {
+        self.dup_if(kept)?;
+        for argument in message.arguments.as_slice() {
+            self.operand(around, false, argument)?;
+        }
+        let selector = around.number(message.selector.as_bytes());
+        self.push(send_of(to_super, selector, message.arguments.len()))?;
+        self.pop_if(kept)
+    }
+
+    #[cycle(walk)]
+    fn expr(&mut self, around: &Around<'a>, expr: &'a Expr) -> Result<(), OutOfMemory>
+        ensures { OnOk result (self.new ≡ walked.expr_walked around.now (named_expr expr.now) self.old) }
+    {
+        self.mention_all(expr.targets.as_slice())?;
+        self.operand(around, has_messages(expr.cascade.as_slice()), &expr.operand)?;
+        self.cascade(around, is_direct(&expr.operand), expr.cascade.as_slice())?;
+        self.store_all(around, expr.targets.as_slice())
+    }
+
+    #[cycle(walk)]
+    fn statement(
+        &mut self,
+        around: &Around<'a>,
+        kind: CodeKind,
+        status: Status,
+        statement: &'a Statement,
+    ) -> Result<(), OutOfMemory>
+        ensures { OnOk result (self.new ≡ walked.statement_walked around.now kind status (named_statement statement.now) self.old) }
+    {
+        let aside = self.separate(status)?;
+        match statement {
+            Statement::Value(expr) => {
+                self.expr(around, expr)?;
+                self.end_statement(kind, status, false, aside)
+            }
+            Statement::Return(expr) => {
+                self.expr(around, expr)?;
+                self.end_statement(kind, status, true, aside)
+            }
+        }
+    }
+
+    #[cycle(walk)]
+    fn statements(
+        &mut self,
+        around: &Around<'a>,
+        kind: CodeKind,
+        statements: &'a [Statement],
+    ) -> Result<(), OutOfMemory>
+        ensures { OnOk result (self.new ≡ walked.statements_walked around.now kind Status.Empty (named_statements statements.now) self.old) }
+    {
+        let mut status = Status::Empty;
+        for statement in statements {
+            self.statement(around, kind, status, statement)?;
+            status = status_after(status, is_return(statement));
+        }
+        self.end_statements(kind, status)
     }
 }
