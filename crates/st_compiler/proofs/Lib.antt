@@ -2,3 +2,4 @@ pub mod Finding
 pub mod Classes
 pub mod Mentioned
 pub mod Chains
+pub mod Walks

@@ -87,6 +87,13 @@ fn is_last(kept: bool, left: usize) -> bool
     if kept { left == 0 } else { false }
 }
 
+// Whether messages of a cascade are left.
+fn are_left(left: usize) -> bool
+    ensures { result ≡ not (left == 0) }
+{
+    left > 0
+}
+
 fn is_return(statement: &Statement) -> bool
     ensures { result ≡ (named_statement statement.now).returns }
 {
@@ -226,7 +233,7 @@ impl<'a> Draft<'a> {
         let mut left = cascade.len();
         for message in cascade {
             left -= 1;
-            self.message(around, to_super, left > 0, message)?;
+            self.message(around, to_super, are_left(left), message)?;
         }
         Ok(())
     }
