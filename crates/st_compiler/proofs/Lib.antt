@@ -3,3 +3,5 @@ pub mod Classes
 pub mod Mentioned
 pub mod Chains
 pub mod Walks
+pub mod Pieces
+pub mod Growth
