@@ -5,3 +5,4 @@ pub mod Chains
 pub mod Walks
 pub mod Pieces
 pub mod Growth
+pub mod Grown
