@@ -13,11 +13,12 @@ use Rattle.st_code.specs.Named.{NamedPrimary, NameOf, SelfName, SuperName, Liter
 use Rattle.st_code.specs.Resolved as made
 use Rattle.st_code.specs.Resolved.{Context, Counts, Made, Receiver, receiver_tree, with_cascade, is_one_sent, behind, assigned, Meant, At, Value', named, tree_of, number_or_last, literal_made, primary_made, chain_made, messages_made, args_made, operand_made, expr_made, statements_made, captured_of, inside, without, has_text}
 use Rattle.st_compiler.specs.declared.draft.Draft.{Draft}
+use Rattle.st_compiler.specs.Drafted.{drafted}
 use Rattle.st_compiler.specs.declared.draft.DraftBody.{DraftBody}
 use Rattle.st_compiler.specs.declared.draft.Status.{Status}
 use Rattle.st_compiler.specs.declared.draft.Status.TheVariants as status
 use Rattle.st_compiler.specs.Walked.{with_step, with_steps, with_names, with_inner, with_objects, push_of, objects_in, send_of, operand_count, dup_if, pop_if, sent_behind, chain_ended, is_super, is_direct, stores, of_kind, end_of, aside_of, separated, status_after, returned, statement_ended, header_of, body_draft, body_begun, body_ended, block_made, primary_walked, chain_walked, cascade_walked, operands_walked, operand_walked, expr_walked, statements_walked, body_made_of, body_names, body_walked}
-use Rattle.st_compiler.proofs.Pieces.{Piece, piece, same-piece, joined, extended, extended-both, counts, drafted, made_piece, counted, counts-extended, grown-next, grown-is, code-append, args-append, messages-append}
+use Rattle.st_compiler.proofs.Pieces.{Piece, piece, same-piece, joined, extended, extended-both, counts, made_piece, counted, counts-extended, grown-next, grown-is, code-append, args-append, messages-append}
 use Rattle.st_compiler.proofs.Growth.{literal-objects, literal-bodies, to_super, super-is, dup_code, pop_code, message_steps, chain_steps, end_steps, kept_steps, chain-code, kept-code, code-kept, direct-is, cascade-code, code-assigned, rest_code}
 
 -- ---- one part behind another

@@ -15,7 +15,7 @@ use Rattle.st_compiler.specs.declared.draft.DraftBody.{DraftBody}
 use Rattle.st_compiler.specs.declared.draft.Status.{Status}
 use Rattle.st_compiler.specs.declared.draft.Status.TheVariants as status
 use Rattle.st_compiler.specs.Walked.{with_step, with_steps, with_names, with_inner, with_objects, push_of, objects_in, objects_in_row, send_of, operand_count, dup_if, pop_if, sent_behind, chain_ended, is_super, is_short, is_direct, stores, of_kind, end_of, aside_of, separated, status_after, returned, statement_ended, no_frame, header_of, body_draft, body_begun, body_ended, block_made, primary_walked, chain_walked, cascade_walked, operands_walked, operand_walked, expr_walked, statements_walked}
-use Rattle.st_compiler.proofs.Pieces.{Piece, piece, same-piece, joined, extended, extended-both, counts, drafted, made_piece, counted, counts-extended, grown-next, grown-is, code-append, args-append, messages-append}
+use Rattle.st_compiler.proofs.Pieces.{Piece, piece, same-piece, joined, extended, extended-both, counts, made_piece, counted, counts-extended, grown-next, grown-is, code-append, args-append, messages-append}
 
 -- ---- literals
 

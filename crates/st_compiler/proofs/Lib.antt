@@ -6,3 +6,5 @@ pub mod Walks
 pub mod Pieces
 pub mod Growth
 pub mod Grown
+pub mod Walked
+pub mod Defined

@@ -10,6 +10,7 @@ use Rattle.st_code.specs.Compiled.{kind_of}
 use Rattle.st_code.specs.Resolved.{Made, Counts, behind}
 use Rattle.st_compiler.specs.declared.draft.DraftBody.{DraftBody}
 use Rattle.st_compiler.specs.declared.draft.Draft.{Draft}
+use Rattle.st_compiler.specs.Drafted.{drafted}
 
 -- ---- code before more code
 
@@ -82,10 +83,6 @@ extended-both d p q =
 
 abbrev pub counts : Draft → Counts
 counts d = record { bodies = length d.bodies; objects = d.objects }
-
--- a body as a draft of it
-abbrev pub drafted : Body → DraftBody
-drafted b = record { header = record { kind = kind_of b.kind; class = b.class; parameters = b.parameters; outer = b.outer }; captured = b.captured; steps = code_body b.kind b.statements }
 
 abbrev pub made_piece : List Body → List Object → List Instr → List Text → List Text → Piece
 made_piece bodies objects steps all inner = piece (map drafted bodies) (length objects) steps all inner

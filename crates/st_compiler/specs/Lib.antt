@@ -2,4 +2,5 @@ pub mod Steps
 pub mod Around
 pub mod Scopes
 pub mod Bytes
+pub mod Drafted
 pub mod Walked

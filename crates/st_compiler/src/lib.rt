@@ -5,4 +5,5 @@ mod around;
 mod draft;
 mod lookup;
 mod step;
+mod units;
 mod walk;
