@@ -8,3 +8,5 @@ pub mod Growth
 pub mod Grown
 pub mod Walked
 pub mod Defined
+pub mod Counting
+pub mod Compiling

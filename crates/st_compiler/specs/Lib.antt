@@ -4,3 +4,4 @@ pub mod Scopes
 pub mod Bytes
 pub mod Drafted
 pub mod Walked
+pub mod Placed

@@ -4,6 +4,7 @@
 mod around;
 mod draft;
 mod lookup;
+mod placing;
 mod step;
 mod units;
 mod walk;
