@@ -1,15 +1,13 @@
 -- Messages, by how many there are.
-use Rattle.std.proofs.Common.{◌≡◌, ℕ, suc, ◌+◌, ◌≤◌, ◌<◌, Bool, true, false, not, ◌&&◌, List, [], ◌∷◌, map, drop, length, refl, ap, sym, ◌∙◌, arith}
+use Rattle.std.proofs.Common.{◌≡◌, ℕ, suc, ◌+◌, ◌≤◌, Bool, true, false, not, ◌&&◌, List, [], ◌∷◌, map, drop, length, refl, ap, sym, ◌∙◌, arith}
 use Rattle.std.proofs.lemmas.Bool.Decides.{nat_tests}
 use Rattle.std.proofs.Common.{leb}
 use Rattle.std.specs.Prelude.{◌==◌}
 use Rattle.st_tree.specs.declared.tree.Message.{Message}
 use Rattle.st_tree.specs.declared.tree.Operand.{Operand, out-Operand}
-use Rattle.st_code.specs.Named.{NamedOperands}
 use Rattle.st_tree.specs.declared.tree.Literal.{Literal}
 use Rattle.std.proofs.lemmas.List.{drop_all}
-use Rattle.st_code.specs.Written.{named_literal, literal_row, named_primary, named_operand, named_message, named_messages, named_operands, operand_row}
-use Rattle.st_code.specs.Resolved.{is_one_sent}
+use Rattle.st_code.specs.Written.{named_literal, literal_row, named_primary, named_operand, named_messages, named_operands}
 use Rattle.st_code.proofs.Written.{operand-out}
 use Rattle.st_compiler.specs.declared.draft.Draft.{Draft}
 use Rattle.st_compiler.specs.Walked.{is_super, is_short, is_direct, chain_ended, operand_count, objects_in_row}

@@ -1,9 +1,8 @@
 -- What a name means outside of bodies, and in scopes.
-use Rattle.std.proofs.Common.{◌≡◌, ℕ, suc, ◌+◌, List, [], ◌∷◌, Option, Some, None, refl, ap, sym, ◌∙◌, arith}
-use Rattle.object_heap.specs.declared.value.Value.TheVariants.{Transcript}
+use Rattle.std.proofs.Common.{◌≡◌, ℕ, suc, ◌+◌, List, [], ◌∷◌, Option, Some, None, ap, sym, ◌∙◌, arith}
 use Rattle.st_code.specs.Texts.{Text}
 use Rattle.st_code.specs.Program.{Side, Scoped}
-use Rattle.st_code.specs.Resolved.{Names, Context, meant, named, Meant, At, Value', or_meant, or_transcript, own_names, in_classes, class_names_at, meant_from, meant_outside, text_in}
+use Rattle.st_code.specs.Resolved.{Names, Context, meant, named, Meant, At, or_meant, or_transcript, own_names, in_classes, class_names_at, meant_from, meant_outside, text_in}
 use Rattle.st_compiler.specs.Around.{named_globally}
 
 or-first : (a b : Option Meant) (m : Meant) → Some m ≡ a → m ≡ or_transcript (or_meant a b)

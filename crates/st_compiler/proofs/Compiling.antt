@@ -1,15 +1,13 @@
 -- The code of drafts is the code of the program whose bodies they are.
-use Rattle.std.proofs.Common.{◌≡◌, ℕ, zero, suc, List, [], ◌∷◌, map, get_or, Bool, Option, Some, None, refl, ap, sym, ◌∙◌}
+use Rattle.std.proofs.Common.{◌≡◌, ℕ, zero, suc, List, [], ◌∷◌, map, get_or, Option, Some, None, refl, ap, ◌∙◌}
 use Rattle.object_heap.specs.declared.value.Value.TheVariants.{Nil}
-use Rattle.st_code.specs.declared.instruction.Variable.{Variable}
-use Rattle.st_code.specs.declared.instruction.Instruction.{Instruction}
 use Rattle.st_code.specs.declared.instruction.Instruction.TheVariants as instruction
 use Rattle.st_code.specs.Program.{Program, Body, body_at, Place, Scoped, Slot, ClassSlot, Shared, InBlock}
 use Rattle.st_code.specs.Code.{Instr, PushConstant, PushSelf, Pop, Dup, PushVariable, Store, SendMessage, SendSuper, MakeBlock, MethodReturn, HomeReturn, BlockEnd, code_body}
 use Rattle.st_code.specs.Compiled.{is_captured, any_captured, placed, outwards, scoped_at, variable_at, instruction_of, compiled_with, compiled_body, compiled_from, compile_of, Compiled}
 use Rattle.st_compiler.specs.declared.draft.DraftBody.{DraftBody}
 use Rattle.st_compiler.specs.Drafted.{drafted}
-use Rattle.st_compiler.specs.Placed.{no_draft, captured_at, outer_at, scoped_in, variable_in, instruction_in, compiled_draft, compiled_drafts}
+use Rattle.st_compiler.specs.Placed.{captured_at, outer_at, scoped_in, variable_in, instruction_in, compiled_draft, compiled_drafts}
 
 abbrev no_body : Body
 no_body = record { kind = InBlock; class = Nil; parameters = 0; captured = []; outer = None; statements = [] }

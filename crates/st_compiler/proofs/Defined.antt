@@ -1,8 +1,7 @@
 -- What is made of a unit is what the unit defines.
-use Rattle.std.proofs.Common.{◌≡◌, ℕ, suc, ◌+◌, List, [], ◌∷◌, ◌++◌, map, length, Option, Some, None, refl, ap, sym, ◌∙◌, append-nil, length-append}
+use Rattle.std.proofs.Common.{◌≡◌, ℕ, suc, ◌+◌, List, [], ◌∷◌, ◌++◌, map, length, Option, None, ap, sym, ◌∙◌, append-nil, length-append}
 use Rattle.std.proofs.lemmas.List.{map-append, length-map}
 use Rattle.object_heap.specs.declared.value.Value.{Value}
-use Rattle.object_heap.specs.Store.{Object}
 use Rattle.st_code.specs.Texts.{Text}
 use Rattle.st_code.specs.Program.{Body, Statement, Side}
 use Rattle.st_code.specs.declared.instruction.CodeKind.{CodeKind}
@@ -10,7 +9,7 @@ use Rattle.st_code.specs.declared.instruction.CodeKind.TheVariants as code_kind
 use Rattle.st_code.specs.Named.{NamedBody, NamedMethod}
 use Rattle.st_code.specs.Resolved as made
 use Rattle.st_code.specs.Resolved.{Context, Counts, Names, statements_made, inside}
-use Rattle.st_code.specs.Definitions.{Defined, context, with_body, with_method, with_initializer}
+use Rattle.st_code.specs.Definitions.{Defined, context, with_method, with_initializer}
 use Rattle.st_compiler.specs.declared.draft.Draft.{Draft}
 use Rattle.st_compiler.specs.declared.draft.Status.TheVariants as status
 use Rattle.st_compiler.specs.declared.units.Defining.{Defining}
@@ -29,7 +28,7 @@ module _ (x : Names) (class : ℕ) (side : Side) (k : CodeKind) (ps : List Text)
   bodies_at n o = made.body_made (of_kind k) (context x class side n) None ps (ps ++ b.temporaries) b.statements (statements_at n o)
 
   module _ (d : Defined) (e f : Draft) (bodies : e.bodies ≡ map drafted d.bodies) (objects : e.objects ≡ length d.objects)
-    (is : f ≡ body_made_of k (context x class side (length e.bodies)) None ps b.temporaries b.statements e) where
+      (is : f ≡ body_made_of k (context x class side (length e.bodies)) None ps b.temporaries b.statements e) where
     count : length e.bodies ≡ length d.bodies
     count = ap length bodies ∙ length-map d.bodies drafted
 
@@ -79,7 +78,7 @@ initializer-made x class side self target b d now f code all holds is number add
       bodies = bodies-made x class side code_kind.Initializer [] b d now.draft f holds.bodies holds.objects is;
       objects = objects-made x class side code_kind.Initializer [] b d now.draft f holds.bodies holds.objects is;
       initializers =
-      ap (map seen_initializer) added ∙ map-append seen_initializer now.initializers (record { code = code; receiver = self; target = target } ∷ [])
-      ∙ ap (λ is. is ++ record { code = code; self = self; target = target } ∷ []) holds.initializers
-      ∙ ap (λ n. d.initializers ++ record { code = n; self = self; target = target } ∷ []) (code-made x class side code_kind.Initializer [] b d now.draft f holds.bodies holds.objects is code number);
+          ap (map seen_initializer) added ∙ map-append seen_initializer now.initializers (record { code = code; receiver = self; target = target } ∷ [])
+          ∙ ap (λ is. is ++ record { code = code; self = self; target = target } ∷ []) holds.initializers
+          ∙ ap (λ n. d.initializers ++ record { code = n; self = self; target = target } ∷ []) (code-made x class side code_kind.Initializer [] b d now.draft f holds.bodies holds.objects is code number);
     }

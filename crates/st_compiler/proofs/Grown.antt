@@ -1,15 +1,15 @@
 -- A walk over a tree adds the bodies, objects and code that the definition makes of it.
-use Rattle.std.proofs.Common.{◌≡◌, ℕ, suc, ◌+◌, Bool, true, false, not, ◌&&◌, List, [], ◌∷◌, ◌++◌, map, length, Option, Some, None, refl, ap, sym, ◌∙◌, append_assoc, append-nil, arith, length-append, if◌then◌else◌}
+use Rattle.std.proofs.Common.{◌≡◌, ℕ, suc, ◌+◌, Bool, true, false, List, [], ◌∷◌, ◌++◌, map, length, Option, refl, ap, sym, ◌∙◌, append_assoc, append-nil, arith, length-append, if◌then◌else◌}
 use Rattle.std.specs.Prelude.{slice_set}
 use Rattle.std.proofs.lemmas.List.{map-append}
 use Rattle.object_heap.specs.Store.{Object}
 use Rattle.st_code.specs.Texts.{Text}
-use Rattle.st_code.specs.Program.{Body, Tree, Trees, Messages, Statement, Plain, Return, Kind, InMethod, InBlock, InInitializer}
-use Rattle.st_code.specs.Code.{Instr, PushConstant, PushSelf, Pop, Dup, MakeBlock, return_of, end_code, code_on, code, code_args, code_messages, code_body}
+use Rattle.st_code.specs.Program.{Body, Tree, Statement, Plain, Return}
+use Rattle.st_code.specs.Code.{Instr, Pop, Dup, MakeBlock, return_of, end_code, code_on, code, code_args, code_body}
 use Rattle.st_code.specs.Compiled.{kind_of}
 use Rattle.st_code.specs.declared.instruction.CodeKind.{CodeKind}
 use Rattle.st_code.specs.declared.instruction.CodeKind.TheVariants as code_kind
-use Rattle.st_code.specs.Named.{NamedPrimary, NameOf, SelfName, SuperName, LiteralOf, BlockOf, ParenOf, NamedOperand, OperandOf, NamedOperands, no_operands, more_operands, NamedMessages, none_sent, then_sent, NamedExpr, ExprOf, NamedStatements, no_statements, more_statements}
+use Rattle.st_code.specs.Named.{NamedOperands, NamedMessages, none_sent, then_sent, NamedExpr, NamedStatements}
 use Rattle.st_code.specs.Resolved as made
 use Rattle.st_code.specs.Resolved.{Context, Counts, Made, Receiver, receiver_tree, with_cascade, is_one_sent, behind, assigned, Meant, At, Value', named, tree_of, number_or_last, literal_made, primary_made, chain_made, messages_made, args_made, operand_made, expr_made, statements_made, captured_of, inside, without, has_text}
 use Rattle.st_compiler.specs.declared.draft.Draft.{Draft}
@@ -17,9 +17,9 @@ use Rattle.st_compiler.specs.Drafted.{drafted}
 use Rattle.st_compiler.specs.declared.draft.DraftBody.{DraftBody}
 use Rattle.st_compiler.specs.declared.draft.Status.{Status}
 use Rattle.st_compiler.specs.declared.draft.Status.TheVariants as status
-use Rattle.st_compiler.specs.Walked.{with_step, with_steps, with_names, with_inner, with_objects, push_of, objects_in, send_of, operand_count, dup_if, pop_if, sent_behind, chain_ended, is_super, is_direct, stores, of_kind, end_of, aside_of, separated, status_after, returned, statement_ended, header_of, body_draft, body_begun, body_ended, block_made, primary_walked, chain_walked, cascade_walked, operands_walked, operand_walked, expr_walked, statements_walked, body_made_of, body_names, body_walked}
-use Rattle.st_compiler.proofs.Pieces.{Piece, piece, same-piece, joined, extended, extended-both, counts, made_piece, counted, counts-extended, grown-next, grown-is, code-append, args-append, messages-append}
-use Rattle.st_compiler.proofs.Growth.{literal-objects, literal-bodies, to_super, super-is, dup_code, pop_code, message_steps, chain_steps, end_steps, kept_steps, chain-code, kept-code, code-kept, direct-is, cascade-code, code-assigned, rest_code}
+use Rattle.st_compiler.specs.Walked.{with_step, with_steps, with_names, push_of, send_of, operand_count, dup_if, sent_behind, chain_ended, of_kind, end_of, aside_of, separated, status_after, statement_ended, header_of, body_draft, body_begun, body_ended, block_made, statements_walked, body_made_of, body_names}
+use Rattle.st_compiler.proofs.Pieces.{Piece, piece, same-piece, joined, extended, counts, made_piece, counted, grown-next, grown-is, code-append}
+use Rattle.st_compiler.proofs.Growth.{message_steps, end_steps, rest_code}
 
 -- ---- one part behind another
 

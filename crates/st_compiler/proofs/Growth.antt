@@ -1,21 +1,15 @@
 -- A walk adds the code of what is made of a tree.
-use Rattle.std.proofs.Common.{◌≡◌, ℕ, suc, ◌+◌, Bool, true, false, not, ◌&&◌, List, [], ◌∷◌, ◌++◌, map, length, Option, Some, None, refl, ap, sym, ◌∙◌, append_assoc, append-nil, arith, length-append, if◌then◌else◌}
-use Rattle.std.proofs.lemmas.List.{map-append}
-use Rattle.object_heap.specs.Store.{Object}
+use Rattle.std.proofs.Common.{◌≡◌, ℕ, suc, ◌+◌, Bool, true, false, not, ◌&&◌, List, [], ◌∷◌, ◌++◌, length, refl, ap, sym, ◌∙◌, append_assoc, append-nil, arith, length-append, if◌then◌else◌}
 use Rattle.st_code.specs.Texts.{Text}
-use Rattle.st_code.specs.Program.{Body, Tree, Trees, no_trees, more_trees, Messages, no_messages, more_messages, Statement, Plain, Return, Kind, InBlock}
-use Rattle.st_code.specs.Code.{Instr, PushConstant, PushSelf, Pop, Dup, SendMessage, SendSuper, Store, MakeBlock, return_of, end_code, empty_code, code_on, code, code_args, code_messages, count_of, code_body}
-use Rattle.st_code.specs.declared.instruction.CodeKind.{CodeKind}
-use Rattle.st_code.specs.declared.instruction.CodeKind.TheVariants as code_kind
-use Rattle.st_code.specs.Named.{Literal, NilLiteral, TrueLiteral, FalseLiteral, IntegerLiteral, CharacterLiteral, StringLiteral, SymbolLiteral, ArrayLiteral, Literals, no_literals, more_literals, NamedPrimary, NameOf, SelfName, SuperName, LiteralOf, BlockOf, ParenOf, NamedOperand, OperandOf, NamedOperands, no_operands, more_operands, NamedMessages, none_sent, then_sent, NamedExpr, ExprOf, NamedStatements, no_statements, more_statements}
+use Rattle.st_code.specs.Program.{Tree, Trees, Messages, more_messages, Statement, Kind}
+use Rattle.st_code.specs.Code.{Instr, PushSelf, Pop, Dup, SendMessage, SendSuper, Store, end_code, code_on, code, code_args, code_messages, count_of, code_body}
+use Rattle.st_code.specs.Named.{Literal, NilLiteral, TrueLiteral, FalseLiteral, IntegerLiteral, CharacterLiteral, StringLiteral, SymbolLiteral, ArrayLiteral, Literals, no_literals, more_literals, NamedPrimary, NameOf, SelfName, SuperName, LiteralOf, BlockOf, ParenOf, NamedOperands, no_operands, more_operands, NamedMessages, none_sent, then_sent}
 use Rattle.st_code.specs.Resolved as made
 use Rattle.st_code.specs.Resolved.{Context, Counts, Made, Receiver, ToTree, ToSuper, receiver_tree, Chain, no_chain, one_sent, with_cascade, cascaded, is_one_sent, behind, assigned, tree_of, Meant, At, Value', named, place_of, number_or_last, literal_made, literals_made, primary_made, chain_made, messages_made, args_made, operand_made, expr_made, statements_made, captured_of, class_of_context, inside, without, has_text}
-use Rattle.st_compiler.specs.declared.draft.Draft.{Draft}
-use Rattle.st_compiler.specs.declared.draft.DraftBody.{DraftBody}
 use Rattle.st_compiler.specs.declared.draft.Status.{Status}
 use Rattle.st_compiler.specs.declared.draft.Status.TheVariants as status
-use Rattle.st_compiler.specs.Walked.{with_step, with_steps, with_names, with_inner, with_objects, push_of, objects_in, objects_in_row, send_of, operand_count, dup_if, pop_if, sent_behind, chain_ended, is_super, is_short, is_direct, stores, of_kind, end_of, aside_of, separated, status_after, returned, statement_ended, no_frame, header_of, body_draft, body_begun, body_ended, block_made, primary_walked, chain_walked, cascade_walked, operands_walked, operand_walked, expr_walked, statements_walked}
-use Rattle.st_compiler.proofs.Pieces.{Piece, piece, same-piece, joined, extended, extended-both, counts, made_piece, counted, counts-extended, grown-next, grown-is, code-append, args-append, messages-append}
+use Rattle.st_compiler.specs.Walked.{objects_in, objects_in_row, send_of, operand_count, is_super, is_short, stores}
+use Rattle.st_compiler.proofs.Pieces.{code-append, args-append}
 
 -- ---- literals
 

@@ -10,3 +10,4 @@ pub mod Walked
 pub mod Defined
 pub mod Counting
 pub mod Compiling
+pub mod Loading

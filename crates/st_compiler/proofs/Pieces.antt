@@ -1,13 +1,11 @@
 -- What a part of a walk adds: pieces of code, one behind the other.
-use Rattle.std.proofs.Common.{◌≡◌, ℕ, suc, ◌+◌, Bool, true, false, List, [], ◌∷◌, ◌++◌, map, length, Option, Some, None, refl, ap, sym, ◌∙◌, append_assoc, append-nil, arith, length-append}
+use Rattle.std.proofs.Common.{◌≡◌, ℕ, ◌+◌, List, [], ◌∷◌, ◌++◌, map, length, refl, ap, sym, ◌∙◌, append_assoc, arith, length-append}
 use Rattle.std.proofs.lemmas.List.{length-map}
-use Rattle.object_heap.specs.declared.value.Value.{Value}
 use Rattle.object_heap.specs.Store.{Object}
 use Rattle.st_code.specs.Texts.{Text}
 use Rattle.st_code.specs.Program.{Tree, Constant, Self, Variable, Assign, Block, Send, SuperSend, Cascade, SuperCascade, Trees, no_trees, more_trees, Messages, no_messages, more_messages, Body}
-use Rattle.st_code.specs.Code.{Instr, PushConstant, PushSelf, Pop, Dup, PushVariable, Store, SendMessage, SendSuper, MakeBlock, code, code_args, code_messages, dup_for, pop_for, count_of, code_body}
-use Rattle.st_code.specs.Compiled.{kind_of}
-use Rattle.st_code.specs.Resolved.{Made, Counts, behind}
+use Rattle.st_code.specs.Code.{Instr, PushSelf, Pop, Dup, Store, SendMessage, SendSuper, code, code_args, code_messages, count_of}
+use Rattle.st_code.specs.Resolved.{Counts}
 use Rattle.st_compiler.specs.declared.draft.DraftBody.{DraftBody}
 use Rattle.st_compiler.specs.declared.draft.Draft.{Draft}
 use Rattle.st_compiler.specs.Drafted.{drafted}

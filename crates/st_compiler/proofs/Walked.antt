@@ -1,9 +1,9 @@
 -- Each walk over a tree adds what the definition makes of the tree.
-use Rattle.std.proofs.Common.{◌≡◌, ℕ, suc, ◌+◌, Bool, true, false, not, ◌&&◌, List, [], ◌∷◌, ◌++◌, map, length, Option, Some, None, refl, ap, sym, ◌∙◌, append_assoc, append-nil, arith, length-append}
+use Rattle.std.proofs.Common.{◌≡◌, ◌+◌, Bool, true, false, not, ◌&&◌, List, [], ◌∷◌, ◌++◌, map, length, Some, refl, ap, sym, ◌∙◌, append_assoc, append-nil, arith, length-append}
 use Rattle.object_heap.specs.Store.{Object}
 use Rattle.st_code.specs.Texts.{Text}
-use Rattle.st_code.specs.Program.{Body, Tree, Trees, Messages, Statement, Constant}
-use Rattle.st_code.specs.Code.{Instr, PushConstant, PushSelf, MakeBlock, code, code_args, code_messages}
+use Rattle.st_code.specs.Program.{Body, Tree}
+use Rattle.st_code.specs.Code.{Instr, PushConstant, PushSelf, code, code_args, code_messages}
 use Rattle.st_code.specs.declared.instruction.CodeKind.{CodeKind}
 use Rattle.st_code.specs.declared.instruction.CodeKind.TheVariants as code_kind
 use Rattle.st_code.specs.Named.{Literal, NamedPrimary, NameOf, SelfName, SuperName, LiteralOf, BlockOf, ParenOf, NamedOperand, OperandOf, NamedOperands, no_operands, more_operands, NamedMessages, none_sent, then_sent, NamedExpr, ExprOf, NamedStatements, no_statements, more_statements}
@@ -13,10 +13,10 @@ use Rattle.st_compiler.specs.declared.draft.Draft.{Draft}
 use Rattle.st_compiler.specs.Drafted.{drafted}
 use Rattle.st_compiler.specs.declared.draft.Status.{Status}
 use Rattle.st_compiler.specs.declared.draft.Status.TheVariants as status
-use Rattle.st_compiler.specs.Walked.{with_step, with_steps, with_names, with_objects, objects_in, send_of, dup_if, sent_behind, chain_ended, is_super, is_direct, stores, of_kind, end_of, aside_of, separated, status_after, statement_ended, header_of, body_begun, block_made, literal_walked, primary_walked, chain_walked, cascade_walked, operands_walked, operand_walked, expr_walked, statements_walked, body_made_of, body_names}
-use Rattle.st_compiler.proofs.Pieces.{Piece, piece, same-piece, joined, extended, extended-both, counts, made_piece, counted, grown-is, code-append, args-append}
-use Rattle.st_compiler.proofs.Growth.{literal-objects, literal-bodies, to_super, super-is, message_steps, chain_steps, end_steps, kept_steps, chain-code, kept-code, code-kept, direct-is, cascade-code, code-assigned, rest_code}
-use Rattle.st_compiler.proofs.Grown.{grown-both, grown-steps, grown-nothing, name-grown, args_piece, message_piece, message-grown, counts-dup, end-grown, statements_piece, begun_counts, body_statements, with_body, names-grown, body-grown, block-grown, expr_piece, statement_steps, statement-grown, statement-code, end-statements}
+use Rattle.st_compiler.specs.Walked.{with_steps, with_names, objects_in, send_of, dup_if, sent_behind, chain_ended, is_super, is_direct, stores, of_kind, aside_of, separated, status_after, statement_ended, header_of, body_begun, block_made, literal_walked, primary_walked, chain_walked, cascade_walked, operands_walked, operand_walked, expr_walked, statements_walked, body_made_of}
+use Rattle.st_compiler.proofs.Pieces.{Piece, extended, counts, made_piece, counted, code-append}
+use Rattle.st_compiler.proofs.Growth.{literal-objects, literal-bodies, super-is, message_steps, chain_steps, end_steps, kept_steps, chain-code, kept-code, code-kept, direct-is, cascade-code, code-assigned, rest_code}
+use Rattle.st_compiler.proofs.Grown.{grown-both, grown-steps, grown-nothing, name-grown, args_piece, message-grown, counts-dup, statements_piece, names-grown, body-grown, expr_piece, statement_steps, statement-grown, statement-code, end-statements}
 
 abbrev pub primary_piece : Context → Counts → NamedPrimary → Piece
 primary_piece x n p = made_piece (primary_made x n p).bodies (primary_made x n p).objects (code (receiver_tree (primary_made x n p).item) []) (made.named_primary true p) (made.named_primary false p)

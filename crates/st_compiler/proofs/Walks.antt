@@ -1,5 +1,5 @@
 -- The parts of a walk, one behind the other.
-use Rattle.std.proofs.Common.{◌≡◌, ℕ, zero, suc, ◌+◌, ◌-◌, ◌<◌, ◌≤◌, Bool, true, false, not, ◌&&◌, List, [], ◌∷◌, ◌++◌, map, drop, length, get_or, Option, Some, None, Result, OnOk, refl, ap, sym, ◌∙◌, subst, arith}
+use Rattle.std.proofs.Common.{◌≡◌, ℕ, ◌+◌, ◌-◌, ◌<◌, ◌≤◌, Bool, false, not, ◌&&◌, List, [], ◌∷◌, ◌++◌, map, drop, length, get_or, Option, Some, Result, OnOk, ap, sym, ◌∙◌, subst, arith}
 use Rattle.std.specs.Prelude.{◌==◌}
 use Rattle.std.proofs.lemmas.List.{drop_all, length-map}
 use Rattle.std.proofs.Common.{length-drop}
@@ -15,9 +15,9 @@ use Rattle.st_code.specs.Texts.{Text}
 use Rattle.st_code.specs.Code.{Instr}
 use Rattle.st_code.specs.declared.instruction.CodeKind.{CodeKind}
 use Rattle.st_code.specs.declared.instruction.CodeKind.TheVariants as code_kind
-use Rattle.st_code.specs.Named.{NamedExpr, NamedStatements, NamedBody}
-use Rattle.st_code.specs.Written.{name_text, NamedMessage, NamedStatement, NamedBlock, named_primary, named_statement, named_block, named_body, named_expr, named_message, named_operand, named_messages, named_operands, named_statements}
-use Rattle.st_code.proofs.Written.{a_block, message-out, operand-out, expr-out, body-out, block-out}
+use Rattle.st_code.specs.Named.{NamedExpr, NamedBody}
+use Rattle.st_code.specs.Written.{name_text, NamedStatement, named_primary, named_statement, named_block, named_body, named_expr, named_message, named_operand, named_messages, named_operands, named_statements}
+use Rattle.st_code.proofs.Written.{message-out, operand-out, expr-out, body-out, block-out}
 use Rattle.st_code.specs.Resolved.{Context, inside, without, number_or_last, is_one_sent}
 use Rattle.st_compiler.specs.declared.draft.Draft.{Draft}
 use Rattle.st_compiler.specs.declared.draft.Frame.{Frame}

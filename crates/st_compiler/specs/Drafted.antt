@@ -1,5 +1,5 @@
 -- Bodies of a program as drafts: their instructions in place of their statements.
-use Rattle.std.specs.Prelude.{◌≡◌, ℕ, List, [], ◌∷◌, map, length, Option, Some, None}
+use Rattle.std.specs.Prelude.{◌≡◌, map, length}
 use Rattle.st_code.specs.Program.{Body, Initializer as Starter}
 use Rattle.st_code.specs.Code.{code_body}
 use Rattle.st_code.specs.Compiled.{kind_of}

@@ -5,3 +5,4 @@ pub mod Bytes
 pub mod Drafted
 pub mod Walked
 pub mod Placed
+pub mod Loading

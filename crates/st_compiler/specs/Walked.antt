@@ -1,8 +1,8 @@
 -- A walk over a body: what it adds to the instructions, bodies and names so far. Each expression, and each part of one, adds its own behind the others.
-use Rattle.std.specs.Prelude.{ℕ, suc, ◌+◌, Bool, true, false, not, ◌&&◌, List, [], ◌∷◌, ◌++◌, map, length, Option, Some, None, if◌then◌else◌}
+use Rattle.std.specs.Prelude.{ℕ, suc, ◌+◌, Bool, true, false, not, ◌&&◌, List, [], ◌∷◌, ◌++◌, map, length, Option, Some}
 use Rattle.std.specs.List.{slice_set}
 use Rattle.st_code.specs.Texts.{Text}
-use Rattle.st_code.specs.Program.{Place, Kind, InMethod, InBlock, InInitializer}
+use Rattle.st_code.specs.Program.{Kind, InMethod, InBlock, InInitializer}
 use Rattle.st_code.specs.Code.{Instr, PushConstant, PushSelf, Pop, Dup, PushVariable, Store, SendMessage, SendSuper, MakeBlock, return_of, end_code, empty_code}
 use Rattle.st_code.specs.declared.instruction.CodeKind.{CodeKind}
 use Rattle.st_code.specs.declared.instruction.CodeKind.TheVariants as code_kind

@@ -3,8 +3,12 @@
 
 mod around;
 mod draft;
+mod loaded;
 mod lookup;
 mod placing;
 mod step;
 mod units;
 mod walk;
+
+pub use loaded::{Loaded, compile};
+pub use units::Initializer;

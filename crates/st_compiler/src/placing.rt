@@ -198,10 +198,14 @@ fn stand_after(instruction: Instruction, count: usize) -> Result<usize, OutOfMem
         Instruction::Store(_) => Ok(count),
         Instruction::Pop => Ok(count.saturating_sub(1)),
         Instruction::Dup => one_more(count),
-        Instruction::Send { selector: _, count: more } => Ok(count.saturating_sub(more as usize)),
-        Instruction::SuperSend { selector: _, count: more } => {
-            Ok(count.saturating_sub(more as usize))
-        }
+        Instruction::Send {
+            selector: _,
+            count: more,
+        } => Ok(count.saturating_sub(more as usize)),
+        Instruction::SuperSend {
+            selector: _,
+            count: more,
+        } => { Ok(count.saturating_sub(more as usize)) }
         Instruction::MakeBlock(_) => one_more(count),
         Instruction::MethodReturn => Ok(count.saturating_sub(1)),
         Instruction::HomeReturn => Ok(count.saturating_sub(1)),

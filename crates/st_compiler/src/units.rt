@@ -3,15 +3,16 @@ ghost use Rattle.std.specs.Prelude.{◌≡◌, length, map, IfOk, OnOk};
 ghost use Rattle.std.specs.Option.{option_map};
 ghost use Rattle.st_code.specs.Written.{name_text, named_body, named_method, named_unit};
 ghost use Rattle.st_code.specs.Resolved.{class_in, place_in};
-ghost use Rattle.st_code.specs.Definitions.{Defined, context, with_method, with_initializer, initialized, or_zero};
+ghost use Rattle.st_code.specs.Definitions.{Defined, nothing_defined, context, with_method, with_initializer, initialized, or_zero};
 ghost use Rattle.program_image.specs.Finding.{defined_kind};
 ghost use Rattle.program_image.specs.Images.{image_names};
 ghost use Rattle.st_compiler.specs.Around.{side_of, seen_key};
 ghost use Rattle.st_compiler.specs.Drafted.{Holds};
+ghost use Rattle.st_compiler.specs.Loading.{IsDefined};
 ghost use Rattle.st_compiler.specs.Walked.{body_made_of};
 
 use crate::around::Around;
-use crate::draft::{Draft, Frame, narrow};
+use crate::draft::{Draft, DraftBody, Frame, narrow};
 use crate::lookup::{Key, shared_place};
 use object_heap::Value;
 use program_image::Image;
@@ -86,7 +87,8 @@ impl<'a> Defining<'a> {
     {
         let parameters = method.parameters.as_slice();
         let kind = CodeKind::Method;
-        self.draft.top(self.image, class, side, kind, parameters, &method.body)?;
+        self.draft
+            .top(self.image, class, side, kind, parameters, &method.body)?;
         Ok(())
     }
 
@@ -122,7 +124,13 @@ impl<'a> Defining<'a> {
             }
             None => {
                 let target = target(self.image, Key::Global(name))?;
-                self.initializer(UNDEFINED_OBJECT, MethodSide::Instance, Value::Nil, target, body)
+                self.initializer(
+                    UNDEFINED_OBJECT,
+                    MethodSide::Instance,
+                    Value::Nil,
+                    target,
+                    body,
+                )
             }
         }
     }
@@ -146,10 +154,22 @@ impl<'a> Defining<'a> {
             UnitKind::PoolInitializer { pool, name, body } => {
                 let (pool, name) = (pool.as_bytes(), name.as_bytes());
                 let target = target(image, Key::Pool { pool, name })?;
-                self.initializer(UNDEFINED_OBJECT, MethodSide::Instance, Value::Nil, target, body)
+                self.initializer(
+                    UNDEFINED_OBJECT,
+                    MethodSide::Instance,
+                    Value::Nil,
+                    target,
+                    body,
+                )
             }
             UnitKind::ProgramInitializer(body) => {
-                self.initializer(UNDEFINED_OBJECT, MethodSide::Instance, Value::Nil, None, body)
+                self.initializer(
+                    UNDEFINED_OBJECT,
+                    MethodSide::Instance,
+                    Value::Nil,
+                    None,
+                    body,
+                )
             }
             UnitKind::Version(_)
             | UnitKind::Class(_)
@@ -160,5 +180,71 @@ impl<'a> Defining<'a> {
             | UnitKind::PoolConstant { .. }
             | UnitKind::Comment(_) => Ok(()),
         }
+    }
+}
+
+impl<'a> Defining<'a> {
+    fn new(alloc: Global, image: &'a Image) -> Defining<'a>
+        ensures image { result.image ≡ image.entry }
+        ensures nothing { Holds result nothing_defined }
+    {
+        Defining {
+            image,
+            draft: Draft {
+                alloc,
+                bodies: Items::new(alloc),
+                objects: 0,
+                frame: Frame::new(alloc),
+            },
+            initializers: Items::new(alloc),
+        }
+    }
+}
+
+/// What the units of a file define, and the number that the body of each unit gets.
+#[derive(Drop)]
+pub(crate) struct Definitions<'a> {
+    defining: Defining<'a>,
+    unit_codes: Items<u32>,
+}
+
+/// What the units of an image define.
+pub(crate) fn definitions_of<'a>(
+    alloc: Global,
+    image: &'a Image,
+) -> Result<Definitions<'a>, OutOfMemory>
+    ensures { IfOk result (IsDefined image.now) }
+{
+    let mut unit_codes = Items::new(alloc);
+    let mut defining = Defining::new(alloc, image);
+    for unit in image.definition().units.as_slice() {
+        unit_codes.push(narrow(defining.draft.bodies.len())?)?;
+        defining.define(unit)?;
+    }
+    Ok(Definitions {
+        defining,
+        unit_codes,
+    })
+}
+
+impl<'a> Definitions<'a> {
+    /// The bodies by number.
+    pub(crate) fn bodies(&self) -> &[DraftBody]
+        ensures { result.now ≡ self.now.defining.draft.bodies }
+    {
+        self.defining.draft.bodies.as_slice()
+    }
+
+    /// The initializers, and the numbers that the units' bodies got.
+    pub(crate) fn into_rows(self) -> (Items<Initializer>, Items<u32>)
+        ensures initializers { result.0 ≡ self.entry.defining.initializers }
+        ensures unit_codes { result.1 ≡ self.entry.unit_codes }
+    {
+        let Definitions {
+            defining,
+            unit_codes,
+        } = self;
+        let Defining { initializers, .. } = defining;
+        (initializers, unit_codes)
     }
 }

@@ -1,4 +1,4 @@
-use Rattle.std.proofs.Common.{◌≡◌, map, Option, ℕ, ap, ◌∙◌}
+use Rattle.std.proofs.Common.{map, Option, ℕ, ap, ◌∙◌}
 use Rattle.std.specs.Option.{is_some}
 use Rattle.st_code.specs.Written.{name_text}
 use Rattle.st_compiler.proofs.Mentioned.{placed-has}

@@ -1,4 +1,4 @@
-use Rattle.std.proofs.Common.{◌≡◌, Bool, ◌||◌, map, ap, sym, ◌∙◌}
+use Rattle.std.proofs.Common.{map, sym, ◌∙◌}
 use Rattle.st_code.specs.Written.{name_text}
 use Rattle.st_code.specs.Resolved.{has_text}
 use Rattle.st_compiler.proofs.Mentioned.{has-append, or-then, or-else}

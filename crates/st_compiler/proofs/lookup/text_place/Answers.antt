@@ -1,4 +1,4 @@
-use Rattle.std.proofs.Common.{rules, ◌≡◌, ◌+◌, ℕ, true, false, drop, map, ap, sym, ◌∙◌}
+use Rattle.std.proofs.Common.{rules, ◌≡◌, ◌+◌, ℕ, true, false, drop, ap, sym, ◌∙◌}
 use Rattle.std.specs.Str.{bytes_eq}
 use Rattle.st_compiler.proofs.Finding.{drop-here, text_in-here, text_in-next}
 use Rattle.st_compiler.proofs.lookup.text_place.Goals as goal

@@ -6,7 +6,7 @@ use Rattle.st_compiler.proofs.placing.captured_before.Goals as goal
 pub loop-is_captured-preserved : goal.loop-is_captured-preserved
 loop-is_captured-preserved c = record {
   counted = before-next c.args.captured.now c.loop-is_captured.is_captured-index c.loop-is_captured.before c.loop-is_captured.left (c.loop-is_captured.left - 1) c.one_if-before.result (captured_before c.args.count c.args.captured.now)
-  c.loop-is_captured-test.true (omega (arith, c.if-left-eq0.false)) refl c.one_if-before.ensures.one c.loop-is_captured.invariant.counted;
+      c.loop-is_captured-test.true (omega (arith, c.if-left-eq0.false)) refl c.one_if-before.ensures.one c.loop-is_captured.invariant.counted;
   most = omega (arith, c.loop-is_captured.invariant.most, c.one_if-before.ensures.most);
 }
 

@@ -1,4 +1,4 @@
-use Rattle.std.proofs.Common.{◌≡◌, ◌+◌, List, map, refl, ap, sym, ◌∙◌}
+use Rattle.std.proofs.Common.{◌+◌, List, map, refl, ap, sym, ◌∙◌}
 use Rattle.st_tree.specs.declared.tree.Literal.{Literal}
 use Rattle.st_code.specs.Written.{named_literal, literal_row}
 use Rattle.st_compiler.specs.Walked.{objects_in, objects_in_row}

@@ -1,4 +1,3 @@
-use Rattle.std.proofs.Common.{ap, ◌∙◌}
 use Rattle.st_compiler.proofs.Chains.{direct-then, direct-else}
 use Rattle.st_compiler.proofs.walk.is_direct.Goals as goal
 

@@ -1,8 +1,7 @@
-use Rattle.std.proofs.Common.{◌≡◌, ℕ, ◌+◌, List, map, drop, ap, sym, ◌∙◌, Some}
+use Rattle.std.proofs.Common.{◌+◌, List, map, drop, ap, ◌∙◌}
 use Rattle.std.proofs.lemmas.List.{drop_all}
 use Rattle.st_code.specs.Program.{Scoped}
-use Rattle.st_code.specs.Resolved.{Context, At, text_in}
-use Rattle.st_compiler.specs.Around.{variables_of}
+use Rattle.st_code.specs.Resolved.{Context, At}
 use Rattle.st_compiler.specs.Scopes.{scope_texts}
 use Rattle.st_compiler.specs.Steps.{seen_meaning}
 use Rattle.st_compiler.specs.declared.around.Scope.{Scope}

@@ -1,7 +1,6 @@
 use Rattle.std.proofs.Common.{List, ap, sym, ◌∙◌}
 use Rattle.st_code.specs.Texts.{Text}
 use Rattle.st_code.specs.Resolved.{Context, number_or_last}
-use Rattle.program_image.specs.Images.{image_names}
 use Rattle.program_image.proofs.Numbers.{named-there, named-not}
 use Rattle.st_compiler.proofs.around.Around.number.Goals as goal
 

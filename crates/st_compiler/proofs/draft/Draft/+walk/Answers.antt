@@ -1,17 +1,12 @@
-use Rattle.std.proofs.Common.{◌≡◌, ◌∙◌, ◌-◌, length, List, map, drop, true, false, ap, refl, arith}
+use Rattle.std.proofs.Common.{◌∙◌, ◌-◌, length, true, false, ap, refl, arith}
 use Rattle.object_heap.specs.declared.value.Value.{Value}
-use Rattle.st_tree.specs.declared.tree.Expr.{out-Expr}
-use Rattle.st_tree.specs.declared.tree.Message.{out-Message}
-use Rattle.st_tree.specs.declared.tree.Operand.{out-Operand}
-use Rattle.st_tree.specs.declared.tree.Body.{out-Body}
-use Rattle.st_tree.specs.declared.tree.Block.{out-Block}
 use Rattle.st_code.specs.Texts.{Text}
-use Rattle.st_code.specs.Written.{name_text, named_body, named_expr, named_statement, named_messages, named_operands, named_statements}
+use Rattle.st_code.specs.Written.{named_expr, named_statement, named_messages, named_operands, named_statements}
 use Rattle.st_code.specs.Resolved.{number_or_last}
 use Rattle.st_code.proofs.Written.{primary-variable, primary-self, primary-super, primary-literal, primary-block, primary-paren, statement-value, statement-return}
 use Rattle.st_compiler.specs.declared.draft.Status.TheVariants as status
-use Rattle.st_compiler.specs.Walked.{header_of, body_walked, chain_walked, cascade_walked, operands_walked, statements_walked, dup_if}
-use Rattle.st_compiler.proofs.Walks.{then-is, chain-next, chain-end, cascade-next, cascade-end, operands-next, message-whole, operand-whole, expr-whole, statement-whole, statements-next, statements-whole, body-start, body-names, body-end, block-whole}
+use Rattle.st_compiler.specs.Walked.{chain_walked, cascade_walked, operands_walked, statements_walked}
+use Rattle.st_compiler.proofs.Walks.{chain-next, chain-end, cascade-next, cascade-end, operands-next, message-whole, operand-whole, expr-whole, statement-whole, statements-next, statements-whole, body-start, body-names, body-end, block-whole}
 use Rattle.st_compiler.proofs.draft.Draft.+walk.Goals as goal
 
 pub primary-returns-in-Variable : goal.primary-returns-in-Variable
@@ -107,7 +102,7 @@ chain-loop-message-preserved t c =
     record {
       counted = omega (arith, c.loop-message.invariant.counted, c.loop-message-test.true);
       walked = chain-next c.args.around.now c.loop-message.direct c.args.kept c.is_last.result c.args.chain.now c.loop-message.message-index c.loop-message.left (c.loop-message.left - 1) c.message-item.result c.loop-message.self c.message.new.self
-      (chain_walked c.args.around.now c.args.to_super c.args.kept (named_messages c.args.chain.now) c.args.self.now) c.message-item.is c.loop-message-test.true c.loop-message.invariant.counted refl c.is_last.ensures c.loop-message.invariant.walked c.in_ok-message.ensures;
+          (chain_walked c.args.around.now c.args.to_super c.args.kept (named_messages c.args.chain.now) c.args.self.now) c.message-item.is c.loop-message-test.true c.loop-message.invariant.counted refl c.is_last.ensures c.loop-message.invariant.walked c.in_ok-message.ensures;
     }
 
 pub cascade-loop-message-preserved : goal.cascade-loop-message-preserved
@@ -115,7 +110,7 @@ cascade-loop-message-preserved t c =
     record {
       counted = omega (arith, c.loop-message.invariant.counted, c.loop-message-test.true);
       walked = cascade-next c.args.around.now c.args.to_super c.are_left.result c.args.cascade.now c.loop-message.message-index c.loop-message.left (c.loop-message.left - 1) c.message-item.result c.loop-message.self c.message.new.self
-      (cascade_walked c.args.around.now c.args.to_super (named_messages c.args.cascade.now) c.args.self.now) c.message-item.is c.loop-message-test.true c.loop-message.invariant.counted refl c.are_left.ensures c.loop-message.invariant.walked c.in_ok-message.ensures;
+          (cascade_walked c.args.around.now c.args.to_super (named_messages c.args.cascade.now) c.args.self.now) c.message-item.is c.loop-message-test.true c.loop-message.invariant.counted refl c.are_left.ensures c.loop-message.invariant.walked c.in_ok-message.ensures;
     }
 
 pub chain-returns : goal.chain-returns

@@ -1,5 +1,4 @@
-use Rattle.std.proofs.Common.{◌≡◌, [], List, map, ap, sym, ◌∙◌}
-use Rattle.std.specs.Borrow.{Bor}
+use Rattle.std.proofs.Common.{[], List, map, ap, sym, ◌∙◌}
 use Rattle.st_code.specs.Texts.{Text}
 use Rattle.st_code.specs.Resolved.{has_text}
 use Rattle.st_compiler.specs.Bytes.{bytes_now}

@@ -3,7 +3,7 @@ use Rattle.st_code.specs.Resolved.{without}
 use Rattle.st_compiler.specs.Around.{variables_of}
 use Rattle.st_compiler.specs.Bytes.{bytes_now}
 use Rattle.std.proofs.Common.{map}
-use Rattle.st_compiler.proofs.Mentioned.{without-next, without-end}
+use Rattle.st_compiler.proofs.Mentioned.{without-next}
 use Rattle.st_compiler.proofs.draft.Mentions.without.Goals as goal
 
 pub loop-name-preserved : goal.loop-name-preserved

@@ -1,4 +1,4 @@
-use Rattle.std.proofs.Common.{refl, map, ap, ◌∙◌, sym}
+use Rattle.std.proofs.Common.{refl, map, ap, sym}
 use Rattle.st_tree.specs.declared.tree.Name.{Name}
 use Rattle.st_code.specs.Written.{name_text, named_body, named_method}
 use Rattle.program_image.specs.Images.{image_names}
