@@ -6,7 +6,8 @@ use Rattle.st_code.specs.declared.instruction.Instruction.{Instruction}
 use Rattle.st_code.specs.declared.instruction.Code.{Code}
 use Rattle.st_code.specs.Compiled.{captured_before, any_captured, stand_after, most_standing, count_uncaptured, Compiled, seen_code}
 use Rattle.st_compiler.specs.declared.draft.DraftBody.{DraftBody}
-use Rattle.st_compiler.specs.Placed.{one_if, compiled_draft, compiled_drafts}
+use Rattle.st_compiler.specs.Befores.{one_if, befores, count_captured}
+use Rattle.st_compiler.specs.Placed.{compiled_draft, compiled_drafts}
 use Rattle.st_compiler.proofs.Finding.{drop-here}
 
 pub drop-bool : {X : Type 0} (xs : List X) (d : X) (i : ℕ) → i < length xs → drop i xs ≡ get_or xs i d ∷ drop (i + 1) xs
@@ -14,44 +15,21 @@ drop-bool xs d i low =
     let next : suc i ≡ i + 1 = omega arith in
     drop-cons xs i d low ∙ ap (λ j. get_or xs i d ∷ drop j xs) next
 
-before-none : (captured : List Bool) → captured_before 0 captured ≡ 0
-before-none captured = refl
+pub before-next : (captured : List Bool) (i count one : ℕ) (now more whole : List ℕ) → i < length captured → one ≡ one_if (get_or captured i false) → more ≡ now ++ count ∷ []
+    → now ++ befores count (drop i captured) ≡ whole → more ++ befores (count + one) (drop (i + 1) captured) ≡ whole
+before-next captured i count one now more whole low is added sofar =
+    let rest : List ℕ = befores (count + one_if (get_or captured i false)) (drop (i + 1) captured) in
+    ap (λ n. more ++ befores (count + n) (drop (i + 1) captured)) is
+    ∙ ap (λ l. l ++ rest) added ∙ append_assoc now (count ∷ []) rest
+    ∙ ap (λ l. now ++ befores count l) (sym (drop-bool captured false i low)) ∙ sofar
 
-pub before-end : (captured : List Bool) (i before left whole : ℕ) → left ≡ 0 → before + captured_before left (drop i captured) ≡ whole → before ≡ whole
-before-end captured i before left whole is sofar = let none : captured_before left (drop i captured) ≡ 0 = ap (λ n. captured_before n (drop i captured)) is in omega (arith, none, sofar)
+pub before-all : (captured : List Bool) (i count : ℕ) (now whole : List ℕ) → length captured ≤ i → now ++ befores count (drop i captured) ≡ whole → now ≡ whole
+before-all captured i count now whole past sofar = sym (append-nil now) ∙ ap (λ l. now ++ befores count l) (sym (drop_all i captured past)) ∙ sofar
 
-before-empty : (left : ℕ) → captured_before left [] ≡ 0
-before-empty zero = refl
-before-empty (suc n) = refl
-
-pub before-all : (captured : List Bool) (i before left whole : ℕ) → length captured ≤ i → before + captured_before left (drop i captured) ≡ whole → before ≡ whole
-before-all captured i before left whole past sofar = let none : captured_before left (drop i captured) ≡ 0 = ap (captured_before left) (drop_all i captured past) ∙ before-empty left in omega (arith, none, sofar)
-
-before-one : (b : Bool) (rest : List Bool) (left now : ℕ) → 0 < left → now ≡ left - 1 → captured_before left (b ∷ rest) ≡ one_if b + captured_before now rest
-before-one b rest zero now low less = absurd (omega (arith, low))
-before-one true rest (suc n) now low less = let same : n ≡ now = omega (arith, less) in ap (λ k. suc (captured_before k rest)) same ∙ omega arith
-before-one false rest (suc n) now low less = let same : n ≡ now = omega (arith, less) in ap (λ k. captured_before k rest) same ∙ omega arith
-
-pub before-next : (captured : List Bool) (i before left now one whole : ℕ) → i < length captured → 0 < left → now ≡ left - 1 → one ≡ one_if (get_or captured i false)
-    → before + captured_before left (drop i captured) ≡ whole → (before + one) + captured_before now (drop (i + 1) captured) ≡ whole
-before-next captured i before left now one whole low some less is sofar =
-    let step : captured_before left (drop i captured) ≡ one_if (get_or captured i false) + captured_before now (drop (i + 1) captured) =
-    ap (captured_before left) (drop-bool captured false i low) ∙ before-one (get_or captured i false) (drop (i + 1) captured) left now some less in
+pub captured-next : (captured : List Bool) (i count one whole : ℕ) → i < length captured → one ≡ one_if (get_or captured i false) → count + count_captured (drop i captured) ≡ whole → (count + one) + count_captured (drop (i + 1) captured) ≡ whole
+captured-next captured i count one whole low is sofar =
+    let step : count_captured (drop i captured) ≡ one_if (get_or captured i false) + count_captured (drop (i + 1) captured) = ap count_captured (drop-bool captured false i low) in
     omega (arith, step, sofar, is)
-
-any-one : (b : Bool) (rest : List Bool) → b ≡ true → any_captured (b ∷ rest) ≡ true
-any-one true rest is = refl
-any-one false rest is = absurd (grind (arith, is))
-
-any-not : (b : Bool) (rest : List Bool) → b ≡ false → any_captured (b ∷ rest) ≡ any_captured rest
-any-not true rest is = absurd (grind (arith, is))
-any-not false rest is = refl
-
-pub any-here : (captured : List Bool) (i : ℕ) → i < length captured → get_or captured i false ≡ true → any_captured (drop i captured) ≡ true
-any-here captured i low is = ap any_captured (drop-bool captured false i low) ∙ any-one (get_or captured i false) (drop (i + 1) captured) is
-
-pub any-next : (captured : List Bool) (i : ℕ) → i < length captured → get_or captured i false ≡ false → any_captured (drop i captured) ≡ any_captured (drop (i + 1) captured)
-any-next captured i low is = ap any_captured (drop-bool captured false i low) ∙ any-not (get_or captured i false) (drop (i + 1) captured) is
 
 free-one : (b : Bool) (rest : List Bool) → count_uncaptured (b ∷ rest) ≡ one_if (not b) + count_uncaptured rest
 free-one true rest = omega arith

@@ -4,13 +4,14 @@ use Rattle.st_code.specs.Program.{Body, Initializer as Starter}
 use Rattle.st_code.specs.Code.{code_body}
 use Rattle.st_code.specs.Compiled.{kind_of}
 use Rattle.st_code.specs.Definitions.{Defined}
+use Rattle.st_compiler.specs.Befores.{befores, count_captured}
 use Rattle.st_compiler.specs.declared.draft.DraftBody.{DraftBody}
 use Rattle.st_compiler.specs.declared.units.Initializer.{Initializer}
 use Rattle.st_compiler.specs.declared.units.Defining.{Defining}
 
 -- a body as a draft of it
 abbrev pub drafted : Body → DraftBody
-drafted b = record { header = record { kind = kind_of b.kind; class = b.class; parameters = b.parameters; outer = b.outer }; captured = b.captured; steps = code_body b.kind b.statements }
+drafted b = record { header = record { kind = kind_of b.kind; class = b.class; parameters = b.parameters; outer = b.outer }; captured = b.captured; before = befores 0 b.captured; captures = count_captured b.captured; steps = code_body b.kind b.statements }
 
 abbrev pub seen_initializer : Initializer → Starter
 seen_initializer i = record { code = i.code; self = i.receiver; target = i.target }

@@ -1,3 +1,4 @@
+pub mod Befores
 pub mod Steps
 pub mod Around
 pub mod Scopes

@@ -1,5 +1,5 @@
 -- The code of bodies that are drafts: where the machine keeps each variable.
-use Rattle.std.specs.Prelude.{ℕ, zero, suc, ◌+◌, Bool, true, false, List, [], ◌∷◌, map, get_or, Option, Some, None}
+use Rattle.std.specs.Prelude.{ℕ, zero, suc, ◌+◌, ◌-◌, Bool, true, false, List, [], ◌∷◌, map, get_or, nat_lt, Option, Some, None}
 use Rattle.object_heap.specs.declared.value.Value.TheVariants as value
 use Rattle.st_code.specs.declared.instruction.CodeKind.TheVariants as code_kind
 use Rattle.st_code.specs.declared.instruction.Variable.{Variable}
@@ -8,15 +8,11 @@ use Rattle.st_code.specs.declared.instruction.Instruction.{Instruction}
 use Rattle.st_code.specs.declared.instruction.Instruction.TheVariants as instruction
 use Rattle.st_code.specs.Program.{Place, Scoped, Slot, ClassSlot, Shared}
 use Rattle.st_code.specs.Code.{Instr, PushConstant, PushSelf, Pop, Dup, PushVariable, Store, SendMessage, SendSuper, MakeBlock, MethodReturn, HomeReturn, BlockEnd}
-use Rattle.st_code.specs.Compiled.{constant_of, is_captured, any_captured, placed, outwards, most_standing, count_uncaptured, Compiled}
+use Rattle.st_code.specs.Compiled.{constant_of, is_captured, outwards, most_standing, count_uncaptured, Compiled}
 use Rattle.st_compiler.specs.declared.draft.DraftBody.{DraftBody}
 
-abbrev pub one_if : Bool → ℕ
-one_if true = 1
-one_if false = 0
-
 abbrev pub no_draft : DraftBody
-no_draft = record { header = record { kind = code_kind.Block; class = value.Nil; parameters = 0; outer = None }; captured = []; steps = [] }
+no_draft = record { header = record { kind = code_kind.Block; class = value.Nil; parameters = 0; outer = None }; captured = []; before = []; captures = 0; steps = [] }
 
 abbrev pub captured_at : List DraftBody → ℕ → List Bool
 captured_at bodies code = (get_or bodies code no_draft).captured
@@ -24,11 +20,22 @@ captured_at bodies code = (get_or bodies code no_draft).captured
 abbrev pub outer_at : List DraftBody → ℕ → Option ℕ
 outer_at bodies code = (get_or bodies code no_draft).header.outer
 
+-- how many variables before this one are captured
+abbrev pub before_at : List DraftBody → ℕ → ℕ → ℕ
+before_at bodies code index = get_or (get_or bodies code no_draft).before index (get_or bodies code no_draft).captures
+
+abbrev pub captures_at : List DraftBody → ℕ → Bool
+captures_at bodies code = nat_lt 0 (get_or bodies code no_draft).captures
+
+abbrev pub placed_behind : Bool → ℕ → ℕ → ℕ → Variable
+placed_behind true scopes before index = variable.Scope scopes before
+placed_behind false scopes before index = variable.Own (index - before)
+
 -- a variable so many bodies outwards, behind so many scopes
 abbrev pub scoped_in : List DraftBody → ℕ → ℕ → Option ℕ → ℕ → Variable
 scoped_in bodies scopes up None index = variable.Own 0
-scoped_in bodies scopes zero (Some n) index = placed (is_captured (captured_at bodies n) index) scopes (captured_at bodies n) index
-scoped_in bodies scopes (suc up) (Some n) index = scoped_in bodies (outwards scopes (any_captured (captured_at bodies n))) up (outer_at bodies n) index
+scoped_in bodies scopes zero (Some n) index = placed_behind (is_captured (captured_at bodies n) index) scopes (before_at bodies n index) index
+scoped_in bodies scopes (suc up) (Some n) index = scoped_in bodies (outwards scopes (captures_at bodies n)) up (outer_at bodies n) index
 
 abbrev pub variable_in : List DraftBody → (code : ℕ) → Place → Variable
 variable_in bodies code (Scoped up index) = scoped_in bodies 0 up (Some code) index

@@ -9,6 +9,7 @@ use Rattle.st_code.specs.declared.instruction.CodeKind.TheVariants as code_kind
 use Rattle.st_code.specs.Named.{Literal as NamedLiteral, NilLiteral, TrueLiteral, FalseLiteral, IntegerLiteral, CharacterLiteral, StringLiteral, SymbolLiteral, ArrayLiteral, Literals, no_literals, more_literals, NamedPrimary, NameOf, SelfName, SuperName, LiteralOf, BlockOf, ParenOf, NamedOperand, OperandOf, NamedOperands, no_operands, more_operands, NamedMessages, none_sent, then_sent, NamedExpr, ExprOf, NamedStatements, no_statements, more_statements}
 use Rattle.st_code.specs.Resolved.{Meant, At, Value', Context, inside, named, place_of, has_text, without, number_or_last, literal_made, is_one_sent, class_of_context}
 use Rattle.st_code.specs.Written.{NamedMessage, NamedStatement, NamedBlock}
+use Rattle.st_compiler.specs.Befores.{befores, count_captured}
 use Rattle.st_compiler.specs.declared.draft.Header.{Header}
 use Rattle.st_compiler.specs.declared.draft.DraftBody.{DraftBody}
 use Rattle.st_compiler.specs.declared.draft.Frame.{Frame}
@@ -159,7 +160,7 @@ header_of kind x outer parameters = record { kind = kind; class = class_of_conte
 
 -- a body with its own number, before those of its blocks
 abbrev pub body_draft : Header → List Bool → List Instr → DraftBody
-body_draft header captured steps = record { header = header; captured = captured; steps = steps }
+body_draft header captured steps = record { header = header; captured = captured; before = befores 0 captured; captures = count_captured captured; steps = steps }
 
 abbrev pub body_begun : Header → Draft → Draft
 body_begun header d = record d { bodies = d.bodies ++ body_draft header [] [] ∷ []; frame = no_frame }

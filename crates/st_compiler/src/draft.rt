@@ -1,9 +1,10 @@
 // The code of a program while it is made: bodies by number, and the one that is being walked.
-ghost use Rattle.std.specs.Prelude.{◌≡◌, [], ◌∷◌, ◌++◌, length, map, slice_set, IfOk, OnOk};
+ghost use Rattle.std.specs.Prelude.{◌≡◌, ◌≤◌, [], ◌∷◌, ◌++◌, length, map, slice_set, IfOk, OnOk};
 ghost use Rattle.st_code.specs.Written.{name_text};
 ghost use Rattle.st_code.specs.Resolved.{has_text, without, place_of};
 ghost use Rattle.st_compiler.specs.Around.{variables_of};
 ghost use Rattle.st_compiler.specs.Steps.{seen_place, seen_meaning, seen_step};
+ghost use Rattle.st_compiler.specs.Befores.{one_if, befores, count_captured};
 ghost use Rattle.st_compiler.specs.Walked.{no_frame, with_step, with_steps, with_names, with_objects, name_walked, push_of, send_of, dup_if, pop_if, stores, of_kind, status_after, body_begun, body_ended, block_made, aside_of, separated, statement_ended, end_of};
 ghost use Rattle.st_code.specs.Code.{return_of, empty_code, end_code};
 
@@ -166,6 +167,10 @@ pub(crate) struct DraftBody {
     pub(crate) header: Header,
     /// Of each variable, parameters first, whether a block inside names it.
     pub(crate) captured: Items<bool>,
+    /// Of each variable, how many before it are captured.
+    pub(crate) before: Items<usize>,
+    /// How many are captured.
+    pub(crate) captures: usize,
     pub(crate) steps: Steps,
 }
 
@@ -352,6 +357,37 @@ pub(crate) fn status_after(status: Status, returns: bool) -> Status
     }
 }
 
+/// One for a thing that counts.
+pub(crate) fn one_if(counts: bool) -> usize
+    ensures one { result ≡ one_if counts }
+    ensures most { result ≤ 1 }
+{
+    if counts { 1 } else { 0 }
+}
+
+// Of each variable, how many before it are captured.
+fn befores(alloc: Global, captured: &[bool]) -> Result<Items<usize>, OutOfMemory>
+    ensures { IfOk result (λ before. before ≡ befores 0 captured.now) }
+{
+    let mut before = Items::new(alloc);
+    let mut count = 0;
+    for is_captured in captured {
+        before.push(count)?;
+        count += one_if(*is_captured);
+    }
+    Ok(before)
+}
+
+fn count_captured(captured: &[bool]) -> usize
+    ensures { result ≡ count_captured captured.now }
+{
+    let mut count = 0;
+    for is_captured in captured {
+        count += one_if(*is_captured);
+    }
+    count
+}
+
 // Puts a body in its place, where there is one.
 fn put_body(bodies: &mut Items<DraftBody>, code: u32, body: DraftBody)
     ensures { bodies.new ≡ slice_set bodies.old code body }
@@ -370,6 +406,8 @@ impl<'a> Draft<'a> {
         self.bodies.push(DraftBody {
             header,
             captured: Items::new(self.alloc),
+            before: Items::new(self.alloc),
+            captures: 0,
             steps: Steps::new(self.alloc),
         })?;
         Ok(mem::replace(&mut self.frame, Frame::new(self.alloc)))
@@ -390,6 +428,8 @@ impl<'a> Draft<'a> {
         let Frame { steps, .. } = mem::replace(&mut self.frame, around);
         let body = DraftBody {
             header,
+            before: befores(self.alloc, captured.as_slice())?,
+            captures: count_captured(captured.as_slice()),
             captured,
             steps,
         };

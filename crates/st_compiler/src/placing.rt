@@ -1,25 +1,16 @@
 // Where the machine keeps each variable, and the code of each body.
-ghost use Rattle.std.specs.Prelude.{◌≡◌, ◌+◌, ◌≤◌, suc, length, map, IfOk};
-ghost use Rattle.st_code.specs.Compiled.{captured_before, is_captured, any_captured, placed, outwards, stand_after, most_standing, count_uncaptured, seen_code};
+ghost use Rattle.std.specs.Prelude.{◌≡◌, ◌+◌, ◌≤◌, suc, length, map, slice_index_or, IfOk};
+ghost use Rattle.st_code.specs.Compiled.{is_captured, outwards, stand_after, most_standing, count_uncaptured, seen_code};
 ghost use Rattle.st_compiler.specs.Steps.{seen_place, seen_step};
-ghost use Rattle.st_compiler.specs.Placed.{one_if, captured_at, outer_at, scoped_in, variable_in, instruction_in, compiled_draft, compiled_drafts};
+ghost use Rattle.st_compiler.specs.Befores.{one_if};
+ghost use Rattle.st_compiler.specs.Placed.{captured_at, outer_at, captures_at, before_at, placed_behind, scoped_in, variable_in, instruction_in, compiled_draft, compiled_drafts};
 
-use crate::draft::{DraftBody, narrow};
+use crate::draft::{DraftBody, narrow, one_if};
 use crate::step::{Place, Step};
 use sqlite_items::Items;
 use st_base::OutOfMemory;
 use st_code::{Code, Instruction, Variable};
 use std::alloc::Global;
-
-// Of each variable of a body, whether a block inside names it.
-fn captured_at(bodies: &[DraftBody], code: u32) -> &[bool]
-    ensures { result.now ≡ captured_at bodies.now code }
-{
-    match bodies.get(code as usize) {
-        Some(body) => body.captured.as_slice(),
-        None => &[],
-    }
-}
 
 // The body around a block.
 fn outer_at(bodies: &[DraftBody], code: u32) -> Option<u32>
@@ -31,39 +22,14 @@ fn outer_at(bodies: &[DraftBody], code: u32) -> Option<u32>
     }
 }
 
-fn one_if(counts: bool) -> usize
-    ensures one { result ≡ one_if counts }
-    ensures most { result ≤ 1 }
+// Whether a block inside a body names one of its variables.
+fn captures_at(bodies: &[DraftBody], code: u32) -> bool
+    ensures { result ≡ captures_at bodies.now code }
 {
-    if counts { 1 } else { 0 }
-}
-
-// How many of the first so many variables are captured.
-fn captured_before(count: usize, captured: &[bool]) -> usize
-    ensures count { result ≡ captured_before count captured.now }
-    ensures most { result ≤ length captured.now }
-{
-    let mut before = 0;
-    let mut left = count;
-    for is_captured in captured {
-        if left == 0 {
-            return before;
-        }
-        left -= 1;
-        before += one_if(*is_captured);
+    match bodies.get(code as usize) {
+        Some(body) => body.captures > 0,
+        None => false,
     }
-    before
-}
-
-fn any_captured(captured: &[bool]) -> bool
-    ensures { result ≡ any_captured captured.now }
-{
-    for is_captured in captured {
-        if *is_captured {
-            return true;
-        }
-    }
-    false
 }
 
 fn is_captured(captured: &[bool], index: usize) -> bool
@@ -75,12 +41,45 @@ fn is_captured(captured: &[bool], index: usize) -> bool
     }
 }
 
-// A variable of a body that is so many scopes outwards.
-fn placed(scopes: usize, captured: &[bool], index: usize) -> Result<Variable, OutOfMemory>
-    ensures { IfOk result (λ v. v ≡ placed (is_captured captured.now index) scopes captured.now index) }
+// Whether a block inside a body names this variable.
+fn is_captured_at(bodies: &[DraftBody], code: u32, index: usize) -> bool
+    ensures { result ≡ is_captured (captured_at bodies.now code) index }
 {
-    let before = captured_before(index, captured);
-    if is_captured(captured, index) {
+    match bodies.get(code as usize) {
+        Some(body) => is_captured(body.captured.as_slice(), index),
+        None => false,
+    }
+}
+
+fn number_at(numbers: &[usize], index: usize, last: usize) -> usize
+    ensures { result ≡ slice_index_or numbers.now index last }
+{
+    match numbers.get(index) {
+        Some(number) => *number,
+        None => last,
+    }
+}
+
+// How many variables of a body before this one are captured.
+fn before_at(bodies: &[DraftBody], code: u32, index: usize) -> usize
+    ensures { result ≡ before_at bodies.now code index }
+{
+    match bodies.get(code as usize) {
+        Some(body) => number_at(body.before.as_slice(), index, body.captures),
+        None => 0,
+    }
+}
+
+// A variable with so many captured ones before it, in a body that is so many scopes outwards.
+fn placed(
+    is_captured: bool,
+    scopes: usize,
+    before: usize,
+    index: usize,
+) -> Result<Variable, OutOfMemory>
+    ensures { IfOk result (λ v. v ≡ placed_behind is_captured scopes before index) }
+{
+    if is_captured {
         let up = narrow(scopes)?;
         let index = narrow(before)?;
         Ok(Variable::Scope { up, index })
@@ -114,11 +113,11 @@ fn scoped(
 {
     match code {
         Some(code) => {
-            let captured = captured_at(bodies, code);
             if up == 0 {
-                return placed(scopes, captured, index);
+                let is_captured = is_captured_at(bodies, code, index);
+                return placed(is_captured, scopes, before_at(bodies, code, index), index);
             }
-            let scopes = outwards(scopes, any_captured(captured))?;
+            let scopes = outwards(scopes, captures_at(bodies, code))?;
             scoped(bodies, scopes, up - 1, outer_at(bodies, code), index)
         }
         None => Ok(Variable::Own(0)),
