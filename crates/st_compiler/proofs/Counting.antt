@@ -1,10 +1,10 @@
 -- Captured variables and standing operands, counted in loops.
-use Rattle.std.proofs.Common.{◌≡◌, ℕ, zero, suc, ◌+◌, ◌-◌, ◌<◌, ◌≤◌, max, Bool, true, false, not, List, [], ◌∷◌, ◌++◌, map, drop, length, get_or, refl, ap, sym, ◌∙◌, append_assoc, append-nil, arith}
+use Rattle.std.proofs.Common.{◌≡◌, ℕ, suc, ◌+◌, ◌<◌, ◌≤◌, max, Bool, true, false, not, List, [], ◌∷◌, ◌++◌, map, drop, length, get_or, ap, sym, ◌∙◌, append_assoc, append-nil, arith}
 use Rattle.std.proofs.Math.Seq.{drop-cons}
 use Rattle.std.proofs.lemmas.List.{drop_all, map-append}
 use Rattle.st_code.specs.declared.instruction.Instruction.{Instruction}
 use Rattle.st_code.specs.declared.instruction.Code.{Code}
-use Rattle.st_code.specs.Compiled.{captured_before, any_captured, stand_after, most_standing, count_uncaptured, Compiled, seen_code}
+use Rattle.st_code.specs.Compiled.{stand_after, most_standing, count_uncaptured, Compiled, seen_code}
 use Rattle.st_compiler.specs.declared.draft.DraftBody.{DraftBody}
 use Rattle.st_compiler.specs.Befores.{one_if, befores, count_captured}
 use Rattle.st_compiler.specs.Placed.{compiled_draft, compiled_drafts}

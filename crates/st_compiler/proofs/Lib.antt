@@ -11,3 +11,5 @@ pub mod Defined
 pub mod Counting
 pub mod Compiling
 pub mod Loading
+pub mod Scopes
+pub mod Ends

@@ -2,43 +2,21 @@
 ghost use Rattle.std.specs.Prelude.{◌≡◌, suc, IfOk, map};
 ghost use Rattle.std.specs.Option.{option_map};
 ghost use Rattle.st_code.specs.Program.{OfInstance, OfClass};
-ghost use Rattle.st_code.specs.Resolved.{text_in, meant_outside, named, number_or_last, class_of_context, inside, own_names, in_pools, in_classes, meant_shared, place_in, class_names_at, or_meant, or_transcript};
+ghost use Rattle.st_code.specs.Resolved.{meant_outside, named, number_or_last, class_of_context, inside, own_names, in_pools, in_classes, meant_shared, place_in, class_names_at, or_meant, or_transcript};
 ghost use Rattle.st_code.specs.Definitions.{context};
 ghost use Rattle.program_image.specs.Classes.{seen_class, seen_variable};
 ghost use Rattle.program_image.specs.Images.{image_names};
 ghost use Rattle.st_compiler.specs.Steps.{seen_meaning};
-ghost use Rattle.st_compiler.specs.Around.{side_of, variables_of, names_of_class, seen_key, in_one_class, named_globally};
+ghost use Rattle.st_compiler.specs.Around.{side_of, names_of_class, seen_key, in_one_class, named_globally};
 
-use crate::lookup::{Key, name_place, shared_place, text_place};
+use crate::lookup::{Key, shared_place, text_place};
+use crate::scope::Scope;
 use crate::step::{Meaning, Place};
 use object_heap::Value;
 use program_image::{Class, Image, SharedVariable};
 use st_base::{MethodSide, OutOfMemory, Text};
-use st_tree::tree::Name;
 use std::alloc::Global;
 use std::marker::Model;
-
-/// The variables of one body.
-#[derive(Clone, Copy)]
-pub(crate) struct Scope<'a> {
-    parameters: &'a [Name],
-    temporaries: &'a [Name],
-}
-
-impl<'a> Scope<'a> {
-    // The place of the first variable of this name.
-    fn place(&self, text: &[u8]) -> Option<usize>
-        ensures { result ≡ text_in 0 (variables_of self.now.parameters.now self.now.temporaries.now) text.now }
-    {
-        match name_place(self.parameters, text) {
-            Some(place) => Some(place),
-            None => match name_place(self.temporaries, text) {
-                Some(place) => Some(self.parameters.len() + place),
-                None => None,
-            },
-        }
-    }
-}
 
 /// Where a tree stands. Contracts see the names, the class and side, the number of the body around
 /// it, and the names of its scopes from the innermost on.
@@ -52,16 +30,14 @@ pub(crate) struct Around<'a> {
 }
 
 impl<'a> Model for Around<'a> {
-    ghost use Rattle.std.specs.Prelude.{map};
     ghost use Rattle.st_code.specs.Resolved.{Context};
 
     ghost Value = { Context };
 
     ghost use Rattle.program_image.specs.Images.{image_names};
     ghost use Rattle.st_compiler.specs.Around.{side_of};
-    ghost use Rattle.st_compiler.specs.Scopes.{scope_texts};
 
-    ghost view = { λ a. record { names = image_names a.image.now; class = a.class; side = side_of a.side; code = a.code; scopes = map scope_texts a.scopes.items } };
+    ghost view = { λ a. record { names = image_names a.image.now; class = a.class; side = side_of a.side; code = a.code; scopes = a.scopes.items } };
 }
 
 fn class_at(image: &Image, class: u32) -> Option<&Class>
@@ -210,17 +186,15 @@ impl<'a> Around<'a> {
         &self,
         alloc: Global,
         code: u32,
-        parameters: &'a [Name],
-        temporaries: &'a [Name],
+        scope: Scope<'a>,
     ) -> Result<Around<'a>, OutOfMemory>
-        ensures { IfOk result (λ x. x ≡ inside self.now code (variables_of parameters.now temporaries.now)) }
+        ensures { IfOk result (λ x. x ≡ inside self.now code scope.entry) }
     {
         let mut scopes = Vec::new(alloc);
-        scopes.push(Scope {
-            parameters,
-            temporaries,
-        })?;
-        scopes.extend_from_slice(&self.scopes)?;
+        scopes.push(scope)?;
+        for outer in self.scopes.as_slice() {
+            scopes.push(outer.share()?)?;
+        }
         Ok(Around {
             image: self.image,
             class: self.class,

@@ -1,7 +1,7 @@
 // The code of a program while it is made: bodies by number, and the one that is being walked.
 ghost use Rattle.std.specs.Prelude.{◌≡◌, ◌≤◌, [], ◌∷◌, ◌++◌, length, map, slice_set, IfOk, OnOk};
 ghost use Rattle.st_code.specs.Written.{name_text};
-ghost use Rattle.st_code.specs.Resolved.{has_text, without, place_of};
+ghost use Rattle.st_code.specs.Resolved.{place_of};
 ghost use Rattle.st_compiler.specs.Around.{variables_of};
 ghost use Rattle.st_compiler.specs.Steps.{seen_place, seen_meaning, seen_step};
 ghost use Rattle.st_compiler.specs.Befores.{one_if, befores, count_captured};
@@ -9,7 +9,7 @@ ghost use Rattle.st_compiler.specs.Walked.{no_frame, with_step, with_steps, with
 ghost use Rattle.st_code.specs.Code.{return_of, empty_code, end_code};
 
 use crate::around::Around;
-use crate::lookup::name_place;
+use crate::names::Mentions;
 use crate::step::{Meaning, Place, Step, Steps};
 use object_heap::Value;
 use sqlite_items::Items;
@@ -17,138 +17,7 @@ use st_base::OutOfMemory;
 use st_code::{CodeKind, Constant};
 use st_tree::tree::Name;
 use std::alloc::Global;
-use std::marker::Model;
 use std::mem;
-
-// Whether one of the names has this text.
-fn has_name(names: &[Name], text: &[u8]) -> bool
-    ensures { result ≡ has_text (map name_text names.now) text.now }
-{
-    name_place(names, text).is_some()
-}
-
-// Whether one of these variables has this text as its name.
-fn is_declared(text: &[u8], parameters: &[Name], temporaries: &[Name]) -> bool
-    ensures { result ≡ has_text (variables_of parameters.now temporaries.now) text.now }
-{
-    has_name(parameters, text) || has_name(temporaries, text)
-}
-
-/// Names that are used, in the order of the text.
-#[derive(Drop)]
-pub(crate) struct Mentions<'a> {
-    names: Vec<&'a [u8]>,
-}
-
-impl<'a> Model for Mentions<'a> {
-    ghost use Rattle.std.specs.Prelude.{List, ℕ, map};
-    ghost use Rattle.st_compiler.specs.Bytes.{bytes_now};
-
-    ghost Value = { List (List ℕ) };
-
-    ghost view = { λ m. map bytes_now m.names.items };
-}
-
-impl<'a> Mentions<'a> {
-    pub(crate) fn new(alloc: Global) -> Mentions<'a>
-        ensures { result ≡ [] }
-    {
-        Mentions {
-            names: Vec::new(alloc),
-        }
-    }
-
-    pub(crate) fn push(&mut self, name: &'a [u8]) -> Result<(), OutOfMemory>
-        ensures { OnOk result (self.new ≡ self.old ++ name.now ∷ []) }
-    {
-        Ok(self.names.push(name)?)
-    }
-
-    /// Adds the names of an expression's targets.
-    pub(crate) fn push_all(&mut self, names: &'a [Name]) -> Result<(), OutOfMemory>
-        ensures { OnOk result (self.new ≡ self.old ++ map name_text names.now) }
-    {
-        for name in names {
-            self.push(name.text.as_bytes())?;
-        }
-        Ok(())
-    }
-
-    /// Adds all of the others.
-    pub(crate) fn extend(&mut self, others: &Mentions<'a>) -> Result<(), OutOfMemory>
-        ensures { OnOk result (self.new ≡ self.old ++ others.now) }
-    {
-        Ok(self.names.extend_from_slice(&others.names)?)
-    }
-
-    // Adds a name that these variables don't declare.
-    fn push_free(
-        &mut self,
-        name: &'a [u8],
-        parameters: &[Name],
-        temporaries: &[Name],
-    ) -> Result<(), OutOfMemory>
-        ensures { OnOk result (self.new ≡ self.old ++ without (name.now ∷ []) (variables_of parameters.now temporaries.now)) }
-    {
-        if is_declared(name, parameters, temporaries) {
-            return Ok(());
-        }
-        self.push(name)
-    }
-
-    /// The names that these variables don't declare.
-    pub(crate) fn without(
-        &self,
-        alloc: Global,
-        parameters: &[Name],
-        temporaries: &[Name],
-    ) -> Result<Mentions<'a>, OutOfMemory>
-        ensures { IfOk result (λ m. m ≡ without self.now (variables_of parameters.now temporaries.now)) }
-    {
-        let mut others = Mentions::new(alloc);
-        for name in self.names.as_slice() {
-            others.push_free(name, parameters, temporaries)?;
-        }
-        Ok(others)
-    }
-
-    // Marks each of the names that is used.
-    fn mark_all(&self, marks: &mut Items<bool>, names: &[Name]) -> Result<(), OutOfMemory>
-        ensures { OnOk result (marks.new ≡ marks.old ++ map (has_text self.now) (map name_text names.now)) }
-    {
-        for name in names {
-            marks.push(self.contains(name.text.as_bytes()))?;
-        }
-        Ok(())
-    }
-
-    /// Of each of these variables, whether its name is used.
-    pub(crate) fn marks(
-        &self,
-        alloc: Global,
-        parameters: &[Name],
-        temporaries: &[Name],
-    ) -> Result<Items<bool>, OutOfMemory>
-        ensures { IfOk result (λ marks. marks ≡ map (has_text self.now) (variables_of parameters.now temporaries.now)) }
-    {
-        let mut marks = Items::new(alloc);
-        self.mark_all(&mut marks, parameters)?;
-        self.mark_all(&mut marks, temporaries)?;
-        Ok(marks)
-    }
-
-    /// Whether the name is used.
-    pub(crate) fn contains(&self, text: &[u8]) -> bool
-        ensures { result ≡ has_text self.now text.now }
-    {
-        for name in self.names.as_slice() {
-            if *name == text {
-                return true;
-            }
-        }
-        false
-    }
-}
 
 /// What a body is the body of.
 #[derive(Clone, Copy)]

@@ -3,10 +3,15 @@
 
 mod around;
 mod draft;
+pub mod law;
 mod loaded;
 mod lookup;
+mod names;
 mod placing;
+mod scope;
 mod step;
+#[cfg(test)]
+mod tests;
 mod units;
 mod walk;
 

@@ -1,13 +1,11 @@
 // The places of names in the lists that declare them.
 ghost use Rattle.std.specs.Prelude.{◌≡◌, ◌<◌, length, map, IfSome};
-ghost use Rattle.st_code.specs.Written.{name_text};
 ghost use Rattle.st_code.specs.Resolved.{GlobalName, PoolName, ClassName, text_in, place_in, same_shared};
 ghost use Rattle.program_image.specs.Classes.{seen_variable};
 ghost use Rattle.st_compiler.specs.Around.{seen_key};
 
 use program_image::SharedVariable;
 use st_base::Text;
-use st_tree::tree::Name;
 
 /// What a variable of the program is looked up by.
 #[derive(Clone, Copy)]
@@ -15,21 +13,6 @@ pub(crate) enum Key<'a> {
     Global(&'a [u8]),
     Pool { pool: &'a [u8], name: &'a [u8] },
     OfClass { class: u32, name: &'a [u8] },
-}
-
-/// The place of the first name with this text.
-pub(crate) fn name_place(names: &[Name], text: &[u8]) -> Option<usize>
-    ensures place { result ≡ text_in 0 (map name_text names.now) text.now }
-    ensures there { IfSome result (λ n. n < length names.now) }
-{
-    let mut place = 0;
-    for name in names {
-        if name.text.as_bytes() == text {
-            return Some(place);
-        }
-        place += 1;
-    }
-    None
 }
 
 /// The place of the first of these texts.

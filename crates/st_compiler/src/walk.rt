@@ -6,7 +6,9 @@ ghost use Rattle.st_code.specs.Written.{named_literal, name_text, named_primary,
 ghost use Rattle.st_compiler.specs.Walked as walked;
 
 use crate::around::Around;
-use crate::draft::{Draft, Header, Mentions, Status, narrow, send_of, status_after};
+use crate::draft::{Draft, Header, Status, narrow, send_of, status_after};
+use crate::names::Mentions;
+use crate::scope::Scope;
 use crate::step::Step;
 use st_base::OutOfMemory;
 use st_code::{CodeKind, Constant};
@@ -172,7 +174,8 @@ impl<'a> Draft<'a> {
     {
         let code = narrow(self.bodies.len())?;
         let temporaries = body.temporaries.as_slice();
-        let within = around.inside(self.alloc, code, parameters, temporaries)?;
+        let scope = Scope::new(self.alloc, parameters, temporaries)?;
+        let within = around.inside(self.alloc, code, scope.share()?)?;
         let header = Header {
             kind,
             class: around.class(),
@@ -181,7 +184,7 @@ impl<'a> Draft<'a> {
         };
         let frame = self.begin(header)?;
         self.statements(&within, kind, body.statements.as_slice())?;
-        let names = self.frame.all.without(self.alloc, parameters, temporaries)?;
+        let names = self.frame.all.without(self.alloc, &scope)?;
         self.end(code, header, parameters, temporaries, frame)?;
         Ok(names)
     }

@@ -1,8 +1,8 @@
-use Rattle.std.proofs.Common.{◌∙◌, ◌-◌, length, true, false, ap, refl, arith}
+use Rattle.std.proofs.Common.{◌∙◌, ◌-◌, List, length, true, false, ap, refl, arith}
 use Rattle.object_heap.specs.declared.value.Value.{Value}
 use Rattle.st_code.specs.Texts.{Text}
 use Rattle.st_code.specs.Written.{named_expr, named_statement, named_messages, named_operands, named_statements}
-use Rattle.st_code.specs.Resolved.{number_or_last}
+use Rattle.st_code.specs.Resolved.{inside, number_or_last, without}
 use Rattle.st_code.proofs.Written.{primary-variable, primary-self, primary-super, primary-literal, primary-block, primary-paren, statement-value, statement-return}
 use Rattle.st_compiler.specs.declared.draft.Status.TheVariants as status
 use Rattle.st_compiler.specs.Walked.{chain_walked, cascade_walked, operands_walked, statements_walked}
@@ -38,9 +38,9 @@ body-returns-clause-names t c =
     c.as_slice-temporaries.ensures
     (body-start c.args.kind c.args.around.now c.in_ok-within.within c.args.outer c.args.parameters.now c.as_slice-temporaries.result.now c.as_slice.result.now c.args.body.now c.in_ok-code.code
     (record { kind = c.args.kind; class = c.class.result; parameters = length c.args.parameters.now; outer = c.args.outer }) c.args.self.now c.begin.new.self c.statements.new.self
-    c.as_slice-temporaries.ensures c.as_slice.ensures (c.in_ok-code.ensures ∙ c.len.ensures) c.in_ok-within.ensures
+    c.as_slice-temporaries.ensures c.as_slice.ensures (c.in_ok-code.ensures ∙ c.len.ensures) (c.in_ok-within.ensures ∙ ap (inside c.args.around.now c.in_ok-code.code) (c.in_ok-share.ensures ∙ c.in_ok-scope.ensures))
     (ap (λ (v : Value). record { kind = c.args.kind; class = v; parameters = length c.args.parameters.now; outer = c.args.outer }) c.class.ensures) c.in_ok-frame.ensures.begun c.in_ok-statements.ensures)
-    c.in_ok-names.ensures
+    (c.in_ok-names.ensures ∙ ap (λ (vs : List Text). without c.statements.new.self.frame.all vs) c.in_ok-scope.ensures)
 
 pub body-returns-clause-made : goal.body-returns-clause-made
 body-returns-clause-made t c =
@@ -50,7 +50,7 @@ body-returns-clause-made t c =
     (ap (λ (v : Value). record { kind = c.args.kind; class = v; parameters = length c.args.parameters.now; outer = c.args.outer }) c.class.ensures) c.in_ok-frame.ensures.around
     (body-start c.args.kind c.args.around.now c.in_ok-within.within c.args.outer c.args.parameters.now c.as_slice-temporaries.result.now c.as_slice.result.now c.args.body.now c.in_ok-code.code
     (record { kind = c.args.kind; class = c.class.result; parameters = length c.args.parameters.now; outer = c.args.outer }) c.args.self.now c.begin.new.self c.statements.new.self
-    c.as_slice-temporaries.ensures c.as_slice.ensures (c.in_ok-code.ensures ∙ c.len.ensures) c.in_ok-within.ensures
+    c.as_slice-temporaries.ensures c.as_slice.ensures (c.in_ok-code.ensures ∙ c.len.ensures) (c.in_ok-within.ensures ∙ ap (inside c.args.around.now c.in_ok-code.code) (c.in_ok-share.ensures ∙ c.in_ok-scope.ensures))
     (ap (λ (v : Value). record { kind = c.args.kind; class = v; parameters = length c.args.parameters.now; outer = c.args.outer }) c.class.ensures) c.in_ok-frame.ensures.begun c.in_ok-statements.ensures)
     c.in_ok-end.ensures
 
