@@ -316,7 +316,7 @@ fn each_form_has_its_instructions(rt: HostRuntime) -> Result<(), Fail> {
 #[test]
 fn a_method_has_the_code_of_its_unit(rt: HostRuntime) -> Result<(), Fail> {
     let loaded = loaded(rt.alloc(), Case::Send)?;
-    assert!(rt; loaded.unit_codes() == &[0]);
+    assert!(rt; loaded.unit_codes() == [0].as_slice());
     assert!(rt; loaded.initializers().is_empty());
     assert!(rt; loaded.image().class_number(b"Object") == Some(0));
     Ok(())
