@@ -1,0 +1,15 @@
+pub mod Finding
+pub mod Classes
+pub mod Mentioned
+pub mod Chains
+pub mod Walks
+pub mod Pieces
+pub mod Growth
+pub mod Grown
+pub mod Walked
+pub mod Defined
+pub mod Counting
+pub mod Compiling
+pub mod Loading
+pub mod Scopes
+pub mod Ends

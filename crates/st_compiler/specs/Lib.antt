@@ -1,0 +1,9 @@
+pub mod Bytes
+pub mod Befores
+pub mod Steps
+pub mod Around
+pub mod Drafted
+pub mod Walked
+pub mod Placed
+pub mod Loading
+pub mod Ends

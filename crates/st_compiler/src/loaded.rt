@@ -1,0 +1,100 @@
+// A program with the code of its methods, blocks and initializers.
+ghost use Rattle.std.specs.Prelude.{◌≡◌, map, IfOk};
+ghost use Rattle.st_code.specs.Compiled.{compile_of, seen_code};
+ghost use Rattle.st_code.specs.Definitions.{RunLimits};
+ghost use Rattle.program_image.specs.Finding.{program_of_image, unit_codes};
+ghost use Rattle.st_compiler.specs.Drafted.{seen_initializer};
+ghost use Rattle.st_compiler.specs.Loading.{IsParts};
+
+use crate::placing::codes_of;
+use crate::units::{Initializer, definitions_of};
+use program_image::Image;
+use sqlite_items::Items;
+use st_base::OutOfMemory;
+use st_code::Code;
+use std::alloc::Global;
+use std::marker::Model;
+
+/// A program with its code. Contracts see it as the units of its file.
+#[derive(Drop)]
+pub struct Loaded {
+    image: Image,
+    parts: Parts,
+}
+
+/// What the machine runs, beside the image.
+#[derive(Drop)]
+pub(crate) struct Parts {
+    codes: Items<Code>,
+    unit_codes: Items<u32>,
+    initializers: Items<Initializer>,
+}
+
+impl Model for Loaded {
+    ghost use Rattle.std.specs.Prelude.{List};
+    ghost use Rattle.std.specs.Coded.{coded_list};
+    ghost use Rattle.st_tree.specs.contracts.units.Unit as unit;
+    ghost use Rattle.st_tree.specs.declared.units.Unit.{Unit};
+
+    ghost coded = { coded_list unit.the_row.coded };
+
+    ghost Value = { List Unit };
+
+    ghost use Rattle.st_compiler.specs.Loading.{IsParts};
+
+    ghost view = { λ l. l.image };
+
+    ghost invariant = { λ l. IsParts l.image l.parts };
+}
+
+fn parts_of(alloc: Global, image: &Image) -> Result<Parts, OutOfMemory>
+    ensures { IfOk result (IsParts image.now) }
+{
+    let definitions = definitions_of(alloc, image)?;
+    let codes = codes_of(alloc, definitions.bodies())?;
+    let (initializers, unit_codes) = definitions.into_rows();
+    Ok(Parts {
+        codes,
+        unit_codes,
+        initializers,
+    })
+}
+
+/// The code of a program. It takes the image whole.
+pub fn compile(alloc: Global, image: Image) -> Result<Loaded, OutOfMemory>
+    ensures { IfOk result (λ loaded. loaded ≡ image) }
+{
+    let parts = parts_of(alloc, &image)?;
+    Ok(Loaded { image, parts })
+}
+
+impl Loaded {
+    /// The image that was compiled.
+    pub fn image(&self) -> &Image
+        ensures { result.now ≡ self.now }
+    {
+        &self.image
+    }
+
+    /// The codes by number: of each unit its body and then its blocks, in the order of the text.
+    pub fn codes(&self) -> &[Code]
+        ensures { (limits : RunLimits) → map seen_code result.now ≡ compile_of (program_of_image self.now limits) }
+    {
+        self.parts.codes.as_slice()
+    }
+
+    /// The number of the code of each unit's body, by the place of the unit in the file. A unit
+    /// without a body has the number that comes next.
+    pub fn unit_codes(&self) -> &[u32]
+        ensures { result.now ≡ unit_codes self.now }
+    {
+        self.parts.unit_codes.as_slice()
+    }
+
+    /// The initializers in file order.
+    pub fn initializers(&self) -> &[Initializer]
+        ensures { (limits : RunLimits) → map seen_initializer result.now ≡ (program_of_image self.now limits).initializers }
+    {
+        self.parts.initializers.as_slice()
+    }
+}
