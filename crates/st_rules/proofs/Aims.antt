@@ -18,13 +18,14 @@ use Rattle.st_rules.specs.Runs.{run_from, kept_value}
 use Rattle.st_rules.proofs.SameVisits.{next_visit_free, first_visit_free}
 use Rattle.st_rules.proofs.FlatControl.{visit_held}
 use Rattle.st_rules.proofs.Flattening.{VisitHolds}
-use Rattle.st_rules.proofs.Targets.{In, IsBody, IsProtect, IsPoint, IsSource, AimedAt, EnvOk, EntryOk, TurnOk, MarkOk, Under, HomeOk, Ok, NumberOk, env_more, turn_more, homes_new, ok_later, ok_push, ok_body, ok_drop, number_next, number_again, home_stands, FoundOk, turn_found, Passes, passed_on, body_ends, outer_ends, SignalAimed, signal_ends, ProtectAimed, protect_ends}
+use Rattle.st_rules.specs.Unwindings.{In, IsBody, IsProtect, IsPoint, IsSource}
+use Rattle.st_rules.proofs.Targets.{AimedAt, EnvOk, EntryOk, TurnOk, MarkOk, Under, HomeOk, Ok, NumberOk, env_more, turn_more, homes_new, ok_later, ok_push, ok_body, ok_drop, number_next, number_again, home_stands, FoundOk, turn_found, Passes, passed_on, body_ends, outer_ends, SignalAimed, signal_ends, ProtectAimed, protect_ends}
 use Rattle.st_rules.proofs.AimedActions.{ActionOk, There', there_for, send_fine, super_fine}
 use Rattle.st_rules.proofs.AimedResults.{Aimed, Fit, later, handle_aims, value_aims, told_aims, step_aims, stood_aims, used_aims}
 
 -- ---- what is asked of a use
 
-abbrev PurposeOk : Purpose → ℕ → List Mark → Type 0
+abbrev pub PurposeOk : Purpose → ℕ → List Mark → Type 0
 PurposeOk ForSignal who s = In (IsPoint who) s × In (IsSource who) s
 PurposeOk (ForPass t) who s = TurnOk t s
 PurposeOk (ForOuter t point) who s = TurnOk t s × In (IsPoint point) s
@@ -34,11 +35,11 @@ pub record SearchOk (x : Search) (s : List Mark) : Type 0 where
   pub whole : EnvOk x.whole s
   pub purpose : PurposeOk x.purpose x.who s
 
-abbrev VisitOk : List Closure → Visit → Type 0
+abbrev pub VisitOk : List Closure → Visit → Type 0
 VisitOk cs (Charges n t v) = (t.closures ≡ cs) × VisitOk cs v
 VisitOk cs v = Unit {0}
 
-visit_ok : (p : Program) (cs : List Closure) (ss : List Scope) (v : Visit) → VisitHolds p cs ss v → VisitOk cs v
+pub visit_ok : (p : Program) (cs : List Closure) (ss : List Scope) (v : Visit) → VisitHolds p cs ss v → VisitOk cs v
 visit_ok p cs ss (Applies l v args) h = tt
 visit_ok p cs ss (Compares l r v) h = tt
 visit_ok p cs ss (Finishes v) h = tt
@@ -52,7 +53,7 @@ pub record BodyOk (own home : ℕ) (env : Env) (s : List Mark) (next : ℕ) : Ty
   pub home_ok : HomeOk home (BodyMark own ∷ s)
   pub home_taken : home < next
 
-abbrev UseOk : List Mark → ℕ → List Closure → Use → Type 0
+abbrev pub UseOk : List Mark → ℕ → List Closure → Use → Type 0
 UseOk s next cs (Apply v args env) = EnvOk env s
 UseOk s next cs (Activate c args env) = EnvOk env s × HomeOk c.home s × (c.home < next)
 UseOk s next cs (Enter code r args env) = EnvOk env s
@@ -80,12 +81,12 @@ pub record Aims (n : Next) : Type 0 where
   pub use' : (u : Use) (s : List Mark) (st : State) → Fit s st → UseOk s st.next st.store.closures u → Aimed st.next s (n.use' u s st)
   pub tree : (e : Tree) (f : Frame) (env : Env) (s : List Mark) (st : State) → Fit s st → EnvOk env s → FrameOk f s st.next → Aimed st.next s (n.tree e f env s st)
 
-fresh_home : (n : ℕ) (s : List Mark) → Under n s → HomeOk n s
+pub fresh_home : (n : ℕ) (s : List Mark) → Under n s → HomeOk n s
 fresh_home n [] h = tt
 fresh_home n (m ∷ s) h = (λ e. let none : ⊥ = omega (arith, e, h.0) in absurd none, fresh_home n s h.1)
 
 -- a turn that a search begins
-turn_begun : (exception who : ℕ) (whole : Env) (q : Purpose) (entry : Option Entry) (outside : Env) (s : List Mark) → PurposeOk q who s → EntryOk entry s → EnvOk outside s → asks_nested (record { exception = exception; who = who; whole = whole; purpose = q }) ≡ false → TurnOk (turn_for (record { exception = exception; who = who; whole = whole; purpose = q }) entry outside) s
+pub turn_begun : (exception who : ℕ) (whole : Env) (q : Purpose) (entry : Option Entry) (outside : Env) (s : List Mark) → PurposeOk q who s → EntryOk entry s → EnvOk outside s → asks_nested (record { exception = exception; who = who; whole = whole; purpose = q }) ≡ false → TurnOk (turn_for (record { exception = exception; who = who; whole = whole; purpose = q }) entry outside) s
 turn_begun exception who whole ForSignal entry outside s q e o n = record { entry = e; outside = o; resume = q.0; signal = q.1 }
 turn_begun exception who whole (ForPass t) entry outside s q e o n = record { entry = e; outside = o; resume = q.resume; signal = q.signal }
 turn_begun exception who whole (ForOuter t point) entry outside s q e o n = record { entry = e; outside = o; resume = q.1; signal = q.0.signal }
@@ -98,12 +99,12 @@ purpose_more (ForOuter t point) who m s h = (turn_more t m s h.0, inr h.1)
 purpose_more ForNested who m s h = tt
 
 -- behind one more that stands, whose number is newer
-there_more : (o : Option Closure) (m : Mark) (s : List Mark) (next : ℕ) → number_of_mark m ≡ next → There' o s next → There' o (m ∷ s) (next + 1)
+pub there_more : (o : Option Closure) (m : Mark) (s : List Mark) (next : ℕ) → number_of_mark m ≡ next → There' o s next → There' o (m ∷ s) (next + 1)
 there_more None m s next e h = tt
 there_more (Some c) m s next e h = ((λ x. let none : ⊥ = omega (arith, e, x, h.1) in absurd none, h.0), omega (arith, h.1))
 
 -- what a default action's value is
-abbrev if_default : Bool → ℕ → Value → Outcome
+abbrev pub if_default : Bool → ℕ → Value → Outcome
 if_default true resume v = Answer v
 if_default false resume v = Go (Target.Resume resume) v
 
@@ -120,7 +121,7 @@ self_kept : (self : Value) (index : ℕ) (v : Value) (t : Store) → (with_self_
 self_kept (Object m) index v t = refl
 self_kept w index v t = refl
 
-place_kept : (p : Program) (f : Frame) (st : State) (place : Place) (v : Value) → ((write_place p f st place v).store.closures ≡ st.store.closures) × ((write_place p f st place v).next ≡ st.next)
+pub place_kept : (p : Program) (f : Frame) (st : State) (place : Place) (v : Value) → ((write_place p f st place v).store.closures ≡ st.store.closures) × ((write_place p f st place v).next ≡ st.next)
 unfolding write_place with_scoped_variable
 place_kept p f st (Scoped up index) v = (scope_kept (scope_up st.store up f.scope) index v st.store, refl)
 place_kept p f st (Slot index) v = (self_kept f.self index v st.store, refl)

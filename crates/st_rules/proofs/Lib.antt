@@ -42,3 +42,5 @@ pub mod SoundMade
 pub mod SoundProgram
 pub mod Writing
 pub mod SoFar
+pub mod AimedMachine
+pub mod AimedRun

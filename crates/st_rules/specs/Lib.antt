@@ -19,3 +19,4 @@ pub mod Flat
 pub mod Compilable
 pub mod Flattened
 pub mod SoFar
+pub mod Unwindings

@@ -1,0 +1,12 @@
+// Every unwinding finds its target.
+ghost use Rattle.st_rules.specs.Unwindings.{ScopedTargetsStand, FlatTargetsStand};
+
+/// At each small step of a run, the target of an unwinding that is in hand is among what stands, or
+/// it is the end of the program: the body of a return, the `on:do:` of a handler's value or of a
+/// retry, the signal or outer point of a resumption, the signal in whose place another exception is
+/// signaled. So it is on the machine that keeps every scope, whose small steps are the uses of the
+/// rules, and on the flat one, of compiled programs.
+pub fn every_unwinding_finds_its_target()
+    ensures scoped { ScopedTargetsStand }
+    ensures flat { FlatTargetsStand }
+{}
