@@ -44,3 +44,5 @@ pub mod Writing
 pub mod SoFar
 pub mod AimedMachine
 pub mod AimedRun
+pub mod FallingSteps
+pub mod EndingTurns

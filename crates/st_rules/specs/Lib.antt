@@ -20,3 +20,4 @@ pub mod Compilable
 pub mod Flattened
 pub mod SoFar
 pub mod Unwindings
+pub mod TurnsEnd

@@ -8,6 +8,7 @@ mod one_run;
 mod so_far;
 mod some_run;
 mod step_limits;
+mod turns_end;
 mod unwindings;
 
 pub use flattened::the_flat_machine_follows_the_scoped_one;
@@ -17,4 +18,5 @@ pub use one_run::a_program_has_at_most_one_run;
 pub use so_far::what_is_written_stays_written;
 pub use some_run::a_program_has_a_run;
 pub use step_limits::a_larger_step_limit_only_extends_the_transcript;
+pub use turns_end::each_turn_comes_to_its_end;
 pub use unwindings::every_unwinding_finds_its_target;
