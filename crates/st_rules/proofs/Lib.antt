@@ -46,3 +46,5 @@ pub mod AimedMachine
 pub mod AimedRun
 pub mod FallingSteps
 pub mod EndingTurns
+pub mod CodeLeft
+pub mod FewInstructions

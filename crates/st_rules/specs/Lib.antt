@@ -21,3 +21,4 @@ pub mod Flattened
 pub mod SoFar
 pub mod Unwindings
 pub mod TurnsEnd
+pub mod Instructions

@@ -3,6 +3,7 @@
 
 mod flattened;
 mod follows;
+mod instructions;
 mod never_stuck;
 mod one_run;
 mod so_far;
@@ -13,6 +14,7 @@ mod unwindings;
 
 pub use flattened::the_flat_machine_follows_the_scoped_one;
 pub use follows::the_machine_follows_the_rules;
+pub use instructions::a_run_makes_boundedly_many_instructions;
 pub use never_stuck::a_run_is_never_stuck;
 pub use one_run::a_program_has_at_most_one_run;
 pub use so_far::what_is_written_stays_written;
