@@ -48,3 +48,4 @@ pub mod FallingSteps
 pub mod EndingTurns
 pub mod CodeLeft
 pub mod FewInstructions
+pub mod SameRun

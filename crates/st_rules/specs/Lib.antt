@@ -22,3 +22,4 @@ pub mod SoFar
 pub mod Unwindings
 pub mod TurnsEnd
 pub mod Instructions
+pub mod SameRun
