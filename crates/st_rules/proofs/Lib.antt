@@ -49,3 +49,5 @@ pub mod EndingTurns
 pub mod CodeLeft
 pub mod FewInstructions
 pub mod SameRun
+pub mod Present
+pub mod NothingMissing

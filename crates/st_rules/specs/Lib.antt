@@ -23,3 +23,4 @@ pub mod Unwindings
 pub mod TurnsEnd
 pub mod Instructions
 pub mod SameRun
+pub mod NothingMissing

@@ -1,0 +1,12 @@
+-- Why nothing is missing on compiled code: the laws of Present.antt and NothingMissing.antt.
+use Rattle.st_rules.proofs.nothing_missing.on_compiled_code_nothing_is_missing.Goals as goal
+use Rattle.st_rules.proofs.NothingMissing.{instructions_have, values_have, activations_have}
+
+pub returns-clause-instructions : goal.returns-clause-instructions
+returns-clause-instructions c = instructions_have
+
+pub returns-clause-values : goal.returns-clause-values
+returns-clause-values c = values_have
+
+pub returns-clause-activations : goal.returns-clause-activations
+returns-clause-activations c = activations_have
