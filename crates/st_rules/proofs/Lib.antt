@@ -51,3 +51,4 @@ pub mod FewInstructions
 pub mod SameRun
 pub mod Present
 pub mod NothingMissing
+pub mod SharedStands

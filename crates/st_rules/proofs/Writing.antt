@@ -229,7 +229,7 @@ module _ {B : Type 0} where
       kept_told None v st h = h
       kept_told (Some place) v st h = other st.transcript st.variables place v h
 
-      opened_told : (xs : List Initializer) (st : State) → Of P st → TopTold P (open_next b p xs st)
+      pub opened_told : (xs : List Initializer) (st : State) → Of P st → TopTold P (open_next b p xs st)
       opened_told [] st h = h
       opened_told (x ∷ xs) st h = open_told (initializer_opening p x st.next) [] st h
 

@@ -24,3 +24,4 @@ pub mod TurnsEnd
 pub mod Instructions
 pub mod SameRun
 pub mod NothingMissing
+pub mod Objects

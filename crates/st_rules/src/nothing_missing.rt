@@ -1,5 +1,6 @@
 // On compiled code nothing is missing.
 ghost use Rattle.st_rules.specs.NothingMissing.{ActivationsHave, InstructionsHave, ValuesHave};
+ghost use Rattle.st_rules.specs.Objects.{SharedStands};
 
 /// At each small step of the flat machine's run of a compiled program, what is named and taken is
 /// there, so no default is taken for it: the position names an instruction, whose operands stand
@@ -11,4 +12,5 @@ pub fn on_compiled_code_nothing_is_missing()
     ensures instructions { InstructionsHave }
     ensures values { ValuesHave }
     ensures activations { ActivationsHave }
+    ensures shared { SharedStands }
 {}

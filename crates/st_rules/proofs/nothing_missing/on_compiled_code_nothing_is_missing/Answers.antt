@@ -1,6 +1,7 @@
 -- Why nothing is missing on compiled code: the laws of Present.antt and NothingMissing.antt.
 use Rattle.st_rules.proofs.nothing_missing.on_compiled_code_nothing_is_missing.Goals as goal
 use Rattle.st_rules.proofs.NothingMissing.{instructions_have, values_have, activations_have}
+use Rattle.st_rules.proofs.SharedStands.{shared_stands}
 
 pub returns-clause-instructions : goal.returns-clause-instructions
 returns-clause-instructions c = instructions_have
@@ -10,3 +11,6 @@ returns-clause-values c = values_have
 
 pub returns-clause-activations : goal.returns-clause-activations
 returns-clause-activations c = activations_have
+
+pub returns-clause-shared : goal.returns-clause-shared
+returns-clause-shared c = shared_stands
