@@ -52,3 +52,9 @@ pub mod SameRun
 pub mod Present
 pub mod NothingMissing
 pub mod SharedStands
+pub mod ValuesHave
+pub mod RowsHave
+pub mod ObjectsRun
+pub mod MoreRowsHave
+pub mod VisitsHave
+pub mod SendsHave

@@ -197,12 +197,13 @@ ActsHave k [] = Unit {0}
 ActsHave k (a ∷ acts) = ActHas k a × ActsHave k acts
 
 -- the program's literals are there, and each value in the store and in a variable
-pub record StateHas (p : Program) (st : State) : Type 0 where
-  pub literals : length p.literals ≤ length st.store.objects
-  pub objects : ObjectsHave (length st.store.objects) st.store.objects
-  pub scopes : ScopesHave (length st.store.objects) st.store.scopes
-  pub closures : ClosuresHave (length st.store.objects) st.store.closures
-  pub variables : AllHave (length st.store.objects) st.variables
+abbrev pub StateHas : Program → State → Type 0
+StateHas p st =
+    (length p.literals ≤ length st.store.objects)
+    × ObjectsHave (length st.store.objects) st.store.objects
+    × ScopesHave (length st.store.objects) st.store.scopes
+    × ClosuresHave (length st.store.objects) st.store.closures
+    × AllHave (length st.store.objects) st.variables
 
 abbrev pub MachHas : Program → Mach FlatBody → Type 0
 MachHas p (Run x acts st) = StateHas p st × BodyHas (length st.store.objects) x × ActsHave (length st.store.objects) acts

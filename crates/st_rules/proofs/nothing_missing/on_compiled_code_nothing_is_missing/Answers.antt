@@ -2,6 +2,7 @@
 use Rattle.st_rules.proofs.nothing_missing.on_compiled_code_nothing_is_missing.Goals as goal
 use Rattle.st_rules.proofs.NothingMissing.{instructions_have, values_have, activations_have}
 use Rattle.st_rules.proofs.SharedStands.{shared_stands}
+use Rattle.st_rules.proofs.SendsHave.{send_has, super_has}
 
 pub returns-clause-instructions : goal.returns-clause-instructions
 returns-clause-instructions c = instructions_have
