@@ -58,3 +58,4 @@ pub mod ObjectsRun
 pub mod MoreRowsHave
 pub mod VisitsHave
 pub mod SendsHave
+pub mod ObjectsMachine

@@ -1,26 +1,24 @@
 -- What messages to objects, collections, blocks and exceptions do at once gives values that are there.
-use Rattle.std.proofs.Common.{◌≡◌, ℕ, zero, suc, ◌+◌, ◌-◌, ◌*◌, ◌/◌, ◌<◌, ◌≤◌, ℤ, pos, negsuc, nat_eq, nat_le, nat_lt, int_lt, int_le, is_some, codes, length, get_or, take, drop, reverse, replicate, map, slice_get, insert, remove, List, [], ◌∷◌, ◌++◌, Option, Some, None, Bool, true, false, not, ◌&&◌, ◌||◌, refl, sym, ap, ◌∙◌, subst, arith, if◌then◌else◌}
-use Rattle.std.specs.Option.{option_and_then}
+use Rattle.std.proofs.Common.{ℕ, suc, ◌+◌, ◌-◌, ◌<◌, ℤ, pos, negsuc, nat_eq, nat_le, nat_lt, int_lt, int_le, is_some, codes, length, get_or, take, drop, reverse, replicate, map, insert, List, [], ◌∷◌, ◌++◌, Option, Some, None, Bool, true, false, not, ◌&&◌, ◌||◌, if◌then◌else◌}
 use Rattle.object_heap.specs.declared.value.Value.{Value}
 use Rattle.object_heap.specs.declared.value.Value.TheVariants.{Nil, True, False, Integer, Character, Symbol, Class, Meta, Transcript, Object}
-use Rattle.object_heap.specs.declared.value.Closure.{Closure}
 use Rattle.object_heap.specs.declared.trouble.Trouble.{Trouble}
 use Rattle.object_heap.specs.declared.trouble.Trouble.TheVariants as trouble
-use Rattle.object_heap.specs.Store.{Store, Object as HeapObject, object_at, object_added, object_set, closure_at, with_slot, with_byte}
+use Rattle.object_heap.specs.Store.{Store, Object as HeapObject, object_at, object_added, with_slot, with_byte}
 use Rattle.object_heap.specs.Charges.{object_charge}
-use Rattle.st_code.specs.Texts.{Text, arity, same_text, text_less, to_lower, to_upper}
+use Rattle.st_code.specs.Texts.{Text, arity, same_text, text_less, to_lower}
 use Rattle.st_code.specs.Program.{Program, Indexed, NoIndexes, ByObject, ByByte, Side, OfInstance, OfClass, OfMeta, class_at, name_at, number_of}
-use Rattle.st_code.specs.BuiltIns.{string_class, symbol_class, array_class, ordered_collection_class, association_class, byte_array_class, exception_set_class, metaclass_class, error_class, message_not_understood_class}
-use Rattle.st_code.specs.Lookup.{Level, level_of, walk, lookup, class_of, is_plain, is_exception, fits}
-use Rattle.st_code.specs.Messages.{Control, ObjectMessage, ClassMessage, CharacterMessage, StringMessage, SequenceMessage, ExceptionMessage, LoopMessage, BooleanMessage, CollectionMessage, TranscriptMessage, BlockMessage}
-use Rattle.st_collections.specs.Actions.{Action, Gives, Changes, Makes, Writes, Fails, Begins, Activates, Sends, Guards, Ensures, Curtails, Iterates, LoopState, Raises, RaisesNew, Controls, Terminates, first, second, boolean, next_object, makes_slots, makes_bytes, makes_string, makes_blank}
-use Rattle.st_collections.specs.Kinds.{same_value, is_true, is_a, bytes_of, slots_of, slot_of, size_of, element, some_elements, elements, is_sequence, is_collection, species, print_text, exception_text, integer_of, natural_of}
-use Rattle.st_collections.specs.ObjectRows.{indexed, index_in, byte_put, object_action, class_action, boolean_action}
+use Rattle.st_code.specs.BuiltIns.{string_class, symbol_class, array_class, ordered_collection_class, association_class, byte_array_class, exception_set_class, metaclass_class}
+use Rattle.st_code.specs.Lookup.{level_of, lookup, class_of, is_plain, is_exception, fits}
+use Rattle.st_code.specs.Messages.{ObjectMessage, ClassMessage, CharacterMessage, StringMessage, SequenceMessage, ExceptionMessage, LoopMessage, BooleanMessage, CollectionMessage, TranscriptMessage}
+use Rattle.st_collections.specs.Actions.{Action, Gives, Changes, Makes, Writes, Fails, Begins, Sends, Iterates, first, second, boolean, next_object, makes_slots, makes_bytes, makes_string, makes_blank}
+use Rattle.st_collections.specs.Kinds.{is_true, is_a, bytes_of, slots_of, slot_of, size_of, element, some_elements, elements, is_sequence, is_collection, species, print_text, exception_text, integer_of, natural_of}
+use Rattle.st_collections.specs.ObjectRows.{indexed, byte_put, object_action, class_action, boolean_action}
 use Rattle.st_collections.specs.TextRows.{with_character, from_code_point, with_text, new_string, string_at, or_empty, byte_of, character_action, string_action, transcript_action}
 use Rattle.st_collections.specs.SequenceRows.{makes_sequence, element_trouble, at_put, join, copy_between, copy_from_to, with_elements, without_element, firsts, seconds, written, is_index, ordered_at, changed, sequence_action, collection_action}
 use Rattle.st_collections.specs.Loops.{loop_action}
-use Rattle.st_rules.specs.ExceptionRows.{closure_of, parameters_of, exception_at, to_exception, kept_or_text, handles, new_exception, signal_new, selectors_of, exception_action}
-use Rattle.st_rules.specs.Objects.{Has, AllHave, ObjectsHave, ClosureHas, ClosuresHave, LoopHas, ActionHas, Grown}
+use Rattle.st_rules.specs.ExceptionRows.{exception_at, to_exception, kept_or_text, handles, new_exception, signal_new, selectors_of, exception_action}
+use Rattle.st_rules.specs.Objects.{Has, AllHave, ObjectsHave, Grown}
 use Rattle.st_rules.proofs.ValuesHave.{first_has, second_has, get_has, append_has, take_has, drop_has, nils_have, reverse_has, grown_itself, grown_byte, grown_added, next_has, grown_set, set_keeps, object_slots, grown_slot}
 use Rattle.st_rules.proofs.RowsHave.{Gets, got, slots_have, slot_has, element_has, some_have, elements_have, if_has, indexed_has, slots_made, bytes_made, string_made, blank_made, sequence_made, byte_written, slot_written, character_has, answers, no_trouble}
 

@@ -1,24 +1,22 @@
 -- What a message does at once gives values that are there, where its receiver and arguments are.
-use Rattle.std.proofs.Common.{◌≡◌, ℕ, zero, suc, ◌+◌, ◌-◌, ◌*◌, ◌<◌, ◌≤◌, ℤ, pos, negsuc, int_div, int_rem, nat_abs, nat_eq, nat_le, length, get_or, take, drop, reverse, replicate, map, slice_get, List, [], ◌∷◌, ◌++◌, Option, Some, None, Bool, true, false, ◌&&◌, refl, sym, ap, ◌∙◌, subst, arith, if◌then◌else◌}
-use Rattle.std.specs.Option.{option_and_then}
+use Rattle.std.proofs.Common.{ℕ, zero, suc, ◌+◌, ◌-◌, ◌*◌, ℤ, pos, negsuc, int_div, int_rem, nat_abs, nat_eq, nat_le, length, get_or, replicate, List, [], ◌∷◌, Option, Some, None, Bool, true, false, ◌&&◌, if◌then◌else◌}
 use Rattle.object_heap.specs.declared.value.Value.{Value}
 use Rattle.object_heap.specs.declared.value.Value.TheVariants.{Nil, True, False, Integer, Character, Symbol, Class, Meta, Transcript, Object}
-use Rattle.object_heap.specs.declared.value.Closure.{Closure}
 use Rattle.object_heap.specs.declared.trouble.Trouble.{Trouble}
-use Rattle.object_heap.specs.declared.trouble.Trouble.TheVariants.{IndexOutOfRange, NumberExpected, StringExpected, ByteExpected, BadRadix, StepIsZero}
-use Rattle.object_heap.specs.Store.{Store, Object as HeapObject, object_at, with_slot, with_byte}
-use Rattle.st_code.specs.Program.{Program, Indexed, NoIndexes, ByObject, ByByte}
+use Rattle.object_heap.specs.declared.trouble.Trouble.TheVariants.{IndexOutOfRange, NumberExpected, ByteExpected, BadRadix, StepIsZero}
+use Rattle.object_heap.specs.Store.{Store, object_at, with_slot, with_byte}
+use Rattle.st_code.specs.Program.{Program}
 use Rattle.st_code.specs.BuiltIns.{string_class, byte_array_class, dictionary_class, interval_class, fraction_class}
-use Rattle.st_code.specs.Messages.{Control, ObjectMessage, ClassMessage, NumberMessage, CharacterMessage, StringMessage, SequenceMessage, ExceptionMessage, LoopMessage, BooleanMessage, CollectionMessage, TranscriptMessage, BlockMessage}
-use Rattle.st_collections.specs.Actions.{Action, Gives, Changes, Makes, Writes, Fails, DividesByZero, PassesIntegers, Begins, Activates, Sends, Misses, Enters, Guards, Ensures, Curtails, Iterates, Raises, RaisesNew, Controls, Terminates, first, second, third, boolean, next_object, with_new, makes_slots, makes_bytes, makes_string, makes_blank}
-use Rattle.st_collections.specs.Kinds.{interval_size, print_text, bytes_of, slots_of, slot_of, size_of, element, some_elements, elements}
-use Rattle.st_collections.specs.ObjectRows.{indexed, index_in, byte_value, byte_put, boolean_action}
-use Rattle.st_collections.specs.TextRows.{with_character, from_code_point, with_text, new_string, string_at, character_action, string_action, transcript_action}
-use Rattle.st_collections.specs.SequenceRows.{makes_sequence, with_elements, without_element}
-use Rattle.st_rules.specs.Numbers.{Ratio, whole, Sum, gcd, in_range, floor_div, floor_mod, and_bits, or_bits, xor_bits, shifted, reduced, quotient_of, product_of, sum_of, negative_of, ratio_less, ratio_at_most, truncated}
+use Rattle.st_code.specs.Messages.{NumberMessage}
+use Rattle.st_collections.specs.Actions.{Action, Gives, Changes, Fails, DividesByZero, PassesIntegers, first, second, boolean, makes_slots, makes_bytes, makes_string, makes_blank}
+use Rattle.st_collections.specs.Kinds.{interval_size, print_text, slots_of, slot_of, size_of, element, some_elements, elements}
+use Rattle.st_collections.specs.ObjectRows.{indexed, index_in, byte_value, byte_put}
+use Rattle.st_collections.specs.TextRows.{with_character}
+use Rattle.st_collections.specs.SequenceRows.{makes_sequence}
+use Rattle.st_rules.specs.Numbers.{Ratio, whole, Sum, gcd, in_range, floor_div, floor_mod, and_bits, or_bits, xor_bits, shifted, reduced, quotient_of, product_of, sum_of, negative_of, ratio_less, ratio_at_most}
 use Rattle.st_rules.specs.NumberRows.{ratio_of, gives_integer, gives_ratio, least_multiple, radix_text, in_radix, number_at, or_zero, number_action}
-use Rattle.st_rules.specs.Objects.{Has, AllHave, ObjectsHave, ClosureHas, ClosuresHave, ActionHas, Grown}
-use Rattle.st_rules.proofs.ValuesHave.{has_later, all_later, boolean_has, first_has, second_has, third_has, get_has, append_has, take_has, drop_has, set_has, nils_have, reverse_has, grown_itself, grown_added, next_has, grown_new, next_new, grown_set, set_keeps, object_slots, grown_slot, grown_byte}
+use Rattle.st_rules.specs.Objects.{Has, AllHave, ObjectsHave, ActionHas}
+use Rattle.st_rules.proofs.ValuesHave.{boolean_has, first_has, get_has, nils_have, grown_new, next_new, set_keeps, object_slots, grown_slot, grown_byte}
 
 module _ (p : Program) (s : Store) (h : ObjectsHave (length s.objects) s.objects) where
   abbrev k : ℕ

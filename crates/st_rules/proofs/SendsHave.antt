@@ -1,5 +1,5 @@
 -- What a send does at once, and the closure of a block, has values that are there.
-use Rattle.std.proofs.Common.{◌≡◌, ℕ, zero, suc, ◌<◌, length, nat_eq, pos, slice_get, List, [], ◌∷◌, Option, Some, None, Bool, true, false, if◌then◌else◌}
+use Rattle.std.proofs.Common.{ℕ, zero, suc, length, nat_eq, slice_get, List, [], ◌∷◌, Option, Some, None, Bool, true, false}
 use Rattle.std.specs.Option.{option_and_then}
 use Rattle.object_heap.specs.declared.value.Value.{Value}
 use Rattle.object_heap.specs.declared.value.Value.TheVariants.{Nil, True, False, Integer, Character, Symbol, Class, Meta, Transcript, Object}
@@ -10,7 +10,7 @@ use Rattle.st_code.specs.Program.{Program, body_at}
 use Rattle.st_code.specs.BuiltIns.{array_class}
 use Rattle.st_code.specs.Messages.{Row, Objects, Classes, Booleans, Numbers, Characters, Transcripts, Strings, Sequences, Collections, Blocks, Exceptions, Loops, Slots, BlockMessage}
 use Rattle.st_code.specs.Lookup.{Found, UserMethod, BuiltIn, level_of, lookup, super_lookup}
-use Rattle.st_collections.specs.Actions.{Action, Gives, Fails, Activates, Misses, Enters, Guards, Ensures, Curtails, first, second}
+use Rattle.st_collections.specs.Actions.{Action, Gives, Fails, Activates, Misses, Enters, first}
 use Rattle.st_collections.specs.Kinds.{is_a, slots_of}
 use Rattle.st_rules.specs.Sends.{row_action, send_action, super_action}
 use Rattle.st_rules.specs.ExceptionRows.{closure_of, value_with, block_at, block_action}

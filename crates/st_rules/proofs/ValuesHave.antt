@@ -1,16 +1,16 @@
 -- Values that are no objects or one of the first so many: in lists, objects and stores.
-use Rattle.std.proofs.Common.{◌≡◌, ℕ, zero, suc, ◌+◌, ◌<◌, ◌≤◌, length, get_or, take, drop, reverse, replicate, slice_set, slice_get, List, [], ◌∷◌, ◌++◌, Option, Some, None, Bool, true, false, refl, sym, ap, ◌∙◌, subst, arith, if◌then◌else◌}
+use Rattle.std.proofs.Common.{◌≡◌, ℕ, zero, suc, ◌+◌, ◌<◌, ◌≤◌, length, get_or, take, drop, reverse, replicate, slice_set, List, [], ◌∷◌, ◌++◌, Option, Some, None, Bool, true, false, refl, sym, ap, ◌∙◌, subst, arith}
 use Rattle.std.proofs.lemmas.List.{length-append, reverse-append}
 use Rattle.object_heap.specs.declared.value.Value.{Value}
 use Rattle.object_heap.specs.declared.value.Value.TheVariants.{Nil, True, False, Integer, Character, Symbol, Class, Meta, Transcript, Object}
 use Rattle.object_heap.specs.declared.value.Closure.{Closure}
 use Rattle.object_heap.specs.Store.{Store, Scope, Object as HeapObject, no_object, object_at, object_set, with_slot, with_byte}
 use Rattle.st_collections.specs.Actions.{LoopState, next_object, with_new, first, second, third, boolean}
-use Rattle.st_rules.specs.State.{Entry, Env, Target, Home, Protected, Retry, RetryWith, Resume, Resignal, Terminate, Outcome, Answer, Go, Stop, Turn}
+use Rattle.st_rules.specs.State.{Entry, Env, Home, Protected, Retry, RetryWith, Resume, Resignal, Terminate, Outcome, Answer, Go, Stop, Turn}
 use Rattle.st_rules.specs.Ends.{Search, Purpose, ForSignal, ForPass, ForOuter, ForNested, Wait, ToResume, ToOuter}
 use Rattle.st_rules.specs.Machine.{Act, BodyAct, Leaving, ProtectAct, EnsureOn, CurtailOn, ActionOff, SignalAct, HandlerRun, OuterAct, ResumeWait, HandlesWait, LoopAct}
 use Rattle.st_rules.specs.Flat.{FlatBody}
-use Rattle.st_rules.specs.Objects.{Has, AllHave, ObjectsHave, ScopesHave, ClosureHas, ClosuresHave, EntryHas, EnvHas, EntryOrNone, TurnHas, TargetHas, OutcomeHas, PurposeHas, SearchHas, WaitHas, LoopHas, BodyHas, ActHas, ActsHave, Grown}
+use Rattle.st_rules.specs.Objects.{Has, AllHave, ObjectsHave, ScopesHave, ClosureHas, ClosuresHave, EntryHas, EnvHas, EntryOrNone, TurnHas, OutcomeHas, PurposeHas, SearchHas, WaitHas, LoopHas, BodyHas, ActHas, ActsHave, Grown}
 
 -- ---- with more objects
 

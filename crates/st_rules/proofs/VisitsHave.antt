@@ -1,21 +1,21 @@
 -- The visits of a loop have values that are there, where the loop's are.
-use Rattle.std.proofs.Common.{◌≡◌, ℕ, zero, suc, ◌+◌, ◌-◌, ◌*◌, ◌<◌, ◌≤◌, ℤ, pos, negsuc, ◌+ℤ◌, nat_eq, nat_le, int_le, int_lt, length, get_or, map, List, [], ◌∷◌, ◌++◌, Bool, true, false, not, ◌&&◌, ◌||◌, refl, sym, ap, ◌∙◌, subst, arith, if◌then◌else◌}
+use Rattle.std.proofs.Common.{◌≡◌, ℕ, ◌+◌, ◌-◌, ◌*◌, ℤ, pos, ◌+ℤ◌, nat_eq, nat_le, int_le, length, get_or, map, List, [], ◌∷◌, ◌++◌, Bool, true, false, not, ◌&&◌, ◌||◌, refl, if◌then◌else◌}
 use Rattle.object_heap.specs.declared.value.Value.{Value}
 use Rattle.object_heap.specs.declared.value.Value.TheVariants.{Nil, True, False, Integer, Character, Symbol, Class, Meta, Transcript, Object}
-use Rattle.object_heap.specs.Store.{Store, object_at, with_slot}
+use Rattle.object_heap.specs.Store.{Store, with_slot}
 use Rattle.object_heap.specs.Charges.{object_charge}
 use Rattle.st_code.specs.Program.{Program}
 use Rattle.st_code.specs.BuiltIns.{string_class, array_class, set_class, dictionary_class, ordered_collection_class}
 use Rattle.st_code.specs.Messages.{LoopMessage}
 use Rattle.st_collections.specs.Actions.{LoopState, Visit, Applies, Compares, Finishes, Lacks, Charges, first, second, third, boolean, next_object, with_new}
-use Rattle.st_collections.specs.Kinds.{same_value, is_true, is_a, slots_of, size_of, element, key, integer_of, natural_of, species}
+use Rattle.st_collections.specs.Kinds.{same_value, is_true, is_a, slots_of, element, key, integer_of, natural_of, species}
 use Rattle.st_collections.specs.TextRows.{byte_of}
 use Rattle.st_collections.specs.SequenceRows.{with_elements, without_element}
 use Rattle.st_collections.specs.Loops.{is_within, visit_at, given_at, next_visit, first_of_message, first_visit}
 use Rattle.st_rules.specs.Objects.{Has, AllHave, ObjectsHave, LoopHas, VisitHas, Grown}
-use Rattle.st_rules.proofs.ValuesHave.{has_later, all_later, loop_later, boolean_has, first_has, second_has, third_has, get_has, append_has, grown_itself, grown_on, grown_new, next_new, set_keeps, grown_slot}
+use Rattle.st_rules.proofs.ValuesHave.{has_later, loop_later, boolean_has, first_has, second_has, third_has, get_has, append_has, grown_itself, grown_on, grown_new, next_new, grown_slot}
 use Rattle.st_rules.proofs.RowsHave.{slots_have, slot_has, element_has}
-use Rattle.st_rules.proofs.MoreRowsHave.{elements_grown, elements_keep, element_removed, removed_keeps}
+use Rattle.st_rules.proofs.MoreRowsHave.{elements_grown, element_removed}
 
 -- what a visit has is there
 pub record Visits (s : Store) (v : Visit) : Type 0 where

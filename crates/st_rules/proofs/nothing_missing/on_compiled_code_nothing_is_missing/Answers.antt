@@ -2,7 +2,7 @@
 use Rattle.st_rules.proofs.nothing_missing.on_compiled_code_nothing_is_missing.Goals as goal
 use Rattle.st_rules.proofs.NothingMissing.{instructions_have, values_have, activations_have}
 use Rattle.st_rules.proofs.SharedStands.{shared_stands}
-use Rattle.st_rules.proofs.SendsHave.{send_has, super_has}
+use Rattle.st_rules.proofs.ObjectsRun.{objects_stand}
 
 pub returns-clause-instructions : goal.returns-clause-instructions
 returns-clause-instructions c = instructions_have
@@ -15,3 +15,6 @@ returns-clause-activations c = activations_have
 
 pub returns-clause-shared : goal.returns-clause-shared
 returns-clause-shared c = shared_stands
+
+pub returns-clause-objects : goal.returns-clause-objects
+returns-clause-objects c = objects_stand
