@@ -59,3 +59,6 @@ pub mod MoreRowsHave
 pub mod VisitsHave
 pub mod SendsHave
 pub mod ObjectsMachine
+pub mod KnownTrees
+pub mod KnownMade
+pub mod KnownProgram

@@ -9,6 +9,9 @@ use Rattle.object_heap.specs.Store.{Store, Scope, Object as HeapObject}
 use Rattle.st_code.specs.declared.instruction.Variable.TheVariants.{Shared}
 use Rattle.st_code.specs.declared.instruction.Instruction.{Instruction}
 use Rattle.st_code.specs.declared.instruction.Instruction.TheVariants.{PushConstant, PushVariable, Store as StoreVariable}
+use Rattle.st_code.specs.Texts.{Text}
+use Rattle.st_code.specs.Named.{NamedUnit}
+use Rattle.st_code.specs.Definitions.{RunLimits, program_of}
 use Rattle.st_code.specs.Program.{Program, Initializer, body_at}
 use Rattle.st_code.specs.Compiled.{Compiled, compile_of, constant_value}
 use Rattle.st_collections.specs.Actions.{Action, Gives, Changes, Makes, Writes, Fails, DividesByZero, PassesIntegers, Begins, Activates, Sends, Misses, Enters, Guards, Ensures, Curtails, Iterates, Raises, RaisesNew, Controls, Terminates, LoopState, Visit, Applies, Compares, Finishes, Lacks, Charges}
@@ -238,3 +241,13 @@ pub record KnowsLiterals (p : Program) : Type 0 where
 -- at each small step of such a program's run, each object number in hand names an object
 abbrev pub ObjectsStand : Type 0
 ObjectsStand = (p : Program) → KnowsLiterals p → (n : ℕ) → TopHas p (top_iter (flat_of p) p n (opened_run (flat_of p) p))
+
+-- ---- the programs that the units of a file are, whatever they are
+
+-- each has the literals that it names
+abbrev pub ProgramsKnowLiterals : Type 0
+ProgramsKnowLiterals = (names : List Text) (units : List NamedUnit) (limits : RunLimits) → KnowsLiterals (program_of names units limits)
+
+-- and the variables, if it has one: an assignment to what is no variable, which the static rules refuse, is compiled as one to the first
+abbrev pub ProgramsKnowShared : Type 0
+ProgramsKnowShared = (names : List Text) (units : List NamedUnit) (limits : RunLimits) → 0 < (program_of names units limits).variables → KnowsShared (program_of names units limits)

@@ -1,19 +1,22 @@
 // On compiled code nothing is missing.
 ghost use Rattle.st_rules.specs.NothingMissing.{ActivationsHave, InstructionsHave, ValuesHave};
-ghost use Rattle.st_rules.specs.Objects.{ObjectsStand, SharedStands};
+ghost use Rattle.st_rules.specs.Objects.{ObjectsStand, ProgramsKnowLiterals, ProgramsKnowShared, SharedStands};
 
 /// At each small step of the flat machine's run of a compiled program, what is named and taken is
 /// there, so no default is taken for it: the position names an instruction, whose operands stand
 /// above the body's own variables, with room for what it pushes; the scopes that it walks and the
 /// variables of its own and in them; the code of a block that it makes; room for a value that
 /// reaches a body; the code and scope of what is activated; the variables of the program, where the
-/// code names no others; and, where the program has the literals that it names, the object of each
-/// number in hand, be it an operand, a variable, a slot, or kept by what stands. Not claimed: slots
-/// of self and class instance variables.
+/// code names no others; and the object of each number in hand, be it an operand, a variable, a
+/// slot, or kept by what stands, where the program has the literals that it names. Each program that
+/// the units of a file are has these literals, and these variables unless it has none. Not claimed:
+/// slots of self and class instance variables.
 pub fn on_compiled_code_nothing_is_missing()
     ensures instructions { InstructionsHave }
     ensures values { ValuesHave }
     ensures activations { ActivationsHave }
     ensures shared { SharedStands }
+    ensures shared_programs { ProgramsKnowShared }
     ensures objects { ObjectsStand }
+    ensures object_programs { ProgramsKnowLiterals }
 {}

@@ -2,6 +2,7 @@
 use Rattle.st_rules.proofs.nothing_missing.on_compiled_code_nothing_is_missing.Goals as goal
 use Rattle.st_rules.proofs.NothingMissing.{instructions_have, values_have, activations_have}
 use Rattle.st_rules.proofs.SharedStands.{shared_stands}
+use Rattle.st_rules.proofs.KnownProgram.{programs_know_literals, programs_know_shared}
 use Rattle.st_rules.proofs.ObjectsRun.{objects_stand}
 
 pub returns-clause-instructions : goal.returns-clause-instructions
@@ -18,3 +19,9 @@ returns-clause-shared c = shared_stands
 
 pub returns-clause-objects : goal.returns-clause-objects
 returns-clause-objects c = objects_stand
+
+pub returns-clause-shared_programs : goal.returns-clause-shared_programs
+returns-clause-shared_programs c = programs_know_shared
+
+pub returns-clause-object_programs : goal.returns-clause-object_programs
+returns-clause-object_programs c = programs_know_literals
