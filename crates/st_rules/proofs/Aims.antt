@@ -92,7 +92,7 @@ turn_begun exception who whole (ForPass t) entry outside s q e o n = record { en
 turn_begun exception who whole (ForOuter t point) entry outside s q e o n = record { entry = e; outside = o; resume = q.1; signal = q.0.signal }
 turn_begun exception who whole ForNested entry outside s q e o n = let none : ⊥ = grind (arith, n) in absurd none
 
-purpose_more : (q : Purpose) (who : ℕ) (m : Mark) (s : List Mark) → PurposeOk q who s → PurposeOk q who (m ∷ s)
+pub purpose_more : (q : Purpose) (who : ℕ) (m : Mark) (s : List Mark) → PurposeOk q who s → PurposeOk q who (m ∷ s)
 purpose_more ForSignal who m s h = (inr h.0, inr h.1)
 purpose_more (ForPass t) who m s h = turn_more t m s h
 purpose_more (ForOuter t point) who m s h = (turn_more t m s h.0, inr h.1)

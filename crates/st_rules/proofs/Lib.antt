@@ -62,3 +62,4 @@ pub mod ObjectsMachine
 pub mod KnownTrees
 pub mod KnownMade
 pub mod KnownProgram
+pub mod Watched

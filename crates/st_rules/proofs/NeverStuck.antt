@@ -22,7 +22,7 @@ not_stuck (Go (Resume n) v) a e = a
 not_stuck (Go (Resignal n f) v) a e = a
 not_stuck (Go Terminate v) a e = grind (arith, e)
 
-first_ok : (p : Program) → Ok [] (first_state p).next (first_state p).store.closures
+pub first_ok : (p : Program) → Ok [] (first_state p).next (first_state p).store.closures
 unfolding first_state
 first_ok p = record { sound = tt; under = tt; homes = tt }
 

@@ -25,3 +25,4 @@ pub mod Instructions
 pub mod SameRun
 pub mod NothingMissing
 pub mod Objects
+pub mod Watched

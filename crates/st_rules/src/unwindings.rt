@@ -1,5 +1,6 @@
 // Every unwinding finds its target.
 ghost use Rattle.st_rules.specs.Unwindings.{ScopedTargetsStand, FlatTargetsStand};
+ghost use Rattle.st_rules.specs.Watched.{RulesTargetsStand};
 
 /// At each small step of a run, the target of an unwinding that is in hand is among what stands, or
 /// it is the end of the program: the body of a return, the `on:do:` of a handler's value or of a
@@ -7,6 +8,7 @@ ghost use Rattle.st_rules.specs.Unwindings.{ScopedTargetsStand, FlatTargetsStand
 /// signaled. So it is on the machine that keeps every scope, whose small steps are the uses of the
 /// rules, and on the flat one, of compiled programs.
 pub fn every_unwinding_finds_its_target()
+    ensures rules { RulesTargetsStand }
     ensures scoped { ScopedTargetsStand }
     ensures flat { FlatTargetsStand }
 {}
