@@ -1,30 +1,28 @@
--- Rules that give up where an unwinding's target doesn't stand do what the rules do: a law for each rule, beside that of Aims.antt.
-use Rattle.std.proofs.Common.{◌≡◌, ℕ, zero, suc, ◌+◌, ◌<◌, ◌≤◌, inl, inr, length, List, [], ◌∷◌, Option, Some, None, Bool, true, false, refl, sym, ap, subst, arith, ◌∙◌, max, eq-eqb, nat_lt, nat_le, nat_eq, if◌then◌else◌}
+-- The target of every unwinding stands, or the unwinding ends the program: a law for each rule. So rules that give up where a target doesn't stand do what the rules do.
+use Rattle.std.proofs.Common.{◌≡◌, ℕ, zero, suc, ◌+◌, ◌≤◌, inl, inr, length, List, [], ◌∷◌, Option, Some, None, Bool, true, false, refl, sym, ap, subst, arith, ◌∙◌, max, eq-eqb, nat_lt, nat_le, if◌then◌else◌}
 use Rattle.object_heap.specs.declared.value.Value.{Value}
 use Rattle.object_heap.specs.declared.value.Value.TheVariants.{Nil, Object}
 use Rattle.object_heap.specs.declared.value.Closure.{Closure}
 use Rattle.object_heap.specs.declared.trouble.Trouble.{Trouble}
-use Rattle.object_heap.specs.Store.{Store, Scope, object_at, with_variable}
-use Rattle.st_code.specs.Program.{Tree, Constant, Self, Variable, Assign, Block, Send, SuperSend, Cascade, SuperCascade, Trees, no_trees, more_trees, Messages, no_messages, more_messages, Statement, Plain, Return, Kind, InMethod, InBlock, InInitializer, Program, body_at, Initializer, Place, Scoped, Slot, ClassSlot, Shared}
+use Rattle.object_heap.specs.Store.{object_at}
+use Rattle.st_code.specs.Program.{Tree, Constant, Self, Variable, Assign, Block, Send, SuperSend, Cascade, SuperCascade, Trees, no_trees, more_trees, Messages, no_messages, more_messages, Statement, Plain, Return, Kind, InMethod, InBlock, InInitializer, Program, body_at, Initializer, Place}
 use Rattle.st_code.specs.Messages.{Control}
 use Rattle.st_code.specs.Lookup.{is_plain, fits, is_exception}
 use Rattle.st_collections.specs.Actions.{Action, Gives, Changes, Makes, Writes, Fails, DividesByZero, PassesIntegers, Begins, Activates, Sends, Misses, Enters, Guards, Ensures, Curtails, Iterates, Raises, RaisesNew, Controls, Terminates, LoopState, Visit, Applies, Compares, Finishes, Lacks, Charges, with_new}
 use Rattle.st_collections.specs.Kinds.{is_true}
 use Rattle.st_collections.specs.Loops.{first_visit, next_visit}
-use Rattle.st_rules.specs.State.{State, Entry, Env, Target, Home, Protected, Retry, RetryWith, Resume, Resignal, Terminate, Outcome, Answer, Go, Stop, step_made, stood, used, Turn, Mark, BodyMark, ProtectMark, ActionMark, LoopMark, WaitMark, OuterMark, SignalMark, TurnMark, Frame, number_of_mark, is_at_signal, scope_cells, scope_up, with_scoped_variable, with_scope, stands, is_live, FoundTurn, NoTurn, TurnAt, turn_of}
-use Rattle.st_rules.specs.Ends.{Result, Yields, NoIndex, charged, handle, then_value, ended, write_place, with_self_slot, with_block, with_arguments, with_message, with_opened, Opening, block_opening, method_opening, initializer_opening, SignalVerdict, Ends, Signals, signal_end, Verdict, Leaves, Again, protect_end, action_end, turn_end, outer_end, left_end, Search, Purpose, ForSignal, ForPass, ForOuter, ForNested, signal_search, turn_search, turn_for, asks_nested, Wait, ToResume, ToOuter, onto}
+use Rattle.st_rules.specs.State.{State, Entry, Env, Target, Home, Protected, Retry, RetryWith, Resume, Resignal, Terminate, Outcome, Answer, Go, Stop, step_made, stood, used, Turn, Mark, BodyMark, ProtectMark, ActionMark, LoopMark, WaitMark, OuterMark, SignalMark, TurnMark, Frame, number_of_mark, is_at_signal, scope_cells, with_scope, stands, is_live, FoundTurn, NoTurn, TurnAt, turn_of}
+use Rattle.st_rules.specs.Ends.{Result, Yields, NoIndex, charged, handle, then_value, ended, write_place, with_block, with_arguments, with_message, with_opened, Opening, block_opening, method_opening, initializer_opening, SignalVerdict, Ends, Signals, signal_end, Verdict, Leaves, Again, protect_end, action_end, turn_end, outer_end, left_end, Search, Purpose, ForPass, ForOuter, ForNested, signal_search, turn_search, turn_for, asks_nested, Wait, ToResume, ToOuter, onto}
 use Rattle.st_rules.specs.Rules.{Use, Apply, Activate, Enter, SendTo, SuperTo, Perform, Raise, RaiseNew, SignalPoint, Resignaled, SearchIn, TurnBy, Ask, Protect, Finish, VisitBy, RunBody, Next, closure_for, fail, apply_by, handler_by, with_exception, exception_cells, opened, signal_by, signal_after, raise, raise_new, tried, handles_after, judged, search, turn_by, turn_after, outer_after, pass, asked, wait_after, resignal, resignal_as, control_by, control_without, control_in, control, protect_by, finish, ensure_after, curtail_after, visit_after, visit, perform, leave, eval_args, eval_messages, eval, eval_body, rule, at_index}
 use Rattle.st_rules.specs.Runs.{run_from, first_state, kept_value}
 use Rattle.st_rules.proofs.SameVisits.{next_visit_free, first_visit_free}
 use Rattle.st_rules.proofs.FlatControl.{visit_held}
-use Rattle.st_rules.proofs.Flattening.{VisitHolds}
 use Rattle.st_rules.specs.Unwindings.{Stands, In, IsBody, IsProtect, IsPoint, IsSource}
-use Rattle.st_rules.proofs.Targets.{AimedAt, EnvOk, EntryOk, TurnOk, MarkOk, Under, HomeOk, Ok, NumberOk, env_more, turn_more, homes_new, ok_later, ok_push, ok_body, ok_drop, number_next, number_again, home_stands, FoundOk, turn_found, Passes, passed_on, body_ends, outer_ends, SignalAimed, signal_ends, ProtectAimed, protect_ends}
+use Rattle.st_rules.proofs.Targets.{AimedAt, EnvOk, EntryOk, TurnOk, MarkOk, Under, Ok, NumberOk, env_more, turn_more, homes_new, ok_later, ok_push, ok_body, ok_drop, number_next, number_again, home_stands, FoundOk, turn_found, Passes, passed_on, body_ends, outer_ends, SignalAimed, signal_ends, ProtectAimed, protect_ends}
 use Rattle.st_rules.proofs.AimedActions.{ActionOk, There', there_for, send_fine, super_fine}
-use Rattle.st_rules.specs.Watched.{any_mark, is_body, is_protect, is_point, is_source, target_stands, watched_result, watched_index, WatchedRuns, RulesTargetsStand}
+use Rattle.st_rules.specs.Watched.{any_mark, is_body, is_protect, is_point, is_source, target_stands, watched_result, watched_index, RulesTargetsStand}
 use Rattle.st_rules.proofs.AimedResults.{Aimed, Fit}
-use Rattle.st_rules.proofs.Aims.{PurposeOk, SearchOk, VisitOk, visit_ok, BodyOk, UseOk, FrameOk, fresh_home, turn_begun, purpose_more, there_more, if_default, place_kept}
-use Rattle.st_rules.proofs.NeverStuck.{first_ok}
+use Rattle.st_rules.proofs.Aims.{PurposeOk, SearchOk, VisitOk, visit_ok, BodyOk, UseOk, FrameOk, fresh_home, turn_begun, there_more, if_default, place_kept}
 
 -- two results that are one, which is aimed
 abbrev pub Same : ℕ → List Mark → Result → Result → Type 0
@@ -478,7 +476,7 @@ passed b s (Yields (Go t v) st) y h =
     subst (λ z. Same b s (Yields (Go t v) st) (watched_result s z)) h.0 (sym e, h.1)
 passed b s NoIndex y h = subst (λ z. Same b s NoIndex (watched_result s z)) h.0 (refl, tt)
 
-agree_at : (p : Program) (i : ℕ) → Agree (at_index p i) (watched_index p i)
+pub agree_at : (p : Program) (i : ℕ) → Agree (at_index p i) (watched_index p i)
 unfolding at_index watched_index
 agree_at p zero = record { use' = λ u s st h k. (refl, tt); tree = λ t f env s st h e k. (refl, tt) }
 agree_at p (suc i) =
@@ -491,10 +489,14 @@ kept_ok : (target : Option ℕ) (v : Value) (st : State) → Fit [] st → Fit [
 kept_ok None v st h = h
 kept_ok (Some place) v st h = h
 
-run_same : (p : Program) (n m : Next) → Agree n m → (xs : List Initializer) (st : State) → Fit [] st → Same 0 [] (run_from p n xs st) (run_from p m xs st)
+pub run_same : (p : Program) (n m : Next) → Agree n m → (xs : List Initializer) (st : State) → Fit [] st → Same 0 [] (run_from p n xs st) (run_from p m xs st)
 run_same p n m aims [] st h = (refl, (tt, h, omega arith))
 run_same p n m aims (x ∷ xs) st h =
     value_same 0 [] _ _ _ _ (later_same 0 st.next [] _ _ (omega arith) (opened_same p n m aims (initializer_opening p x st.next) [] st h (record { env_ok = tt; above = tt; own_taken = omega arith; home_ok = (λ e. sym e, tt); home_taken = omega arith }))) (λ v st1 h1 le. run_same p n m aims xs (kept_value x.target v st1) (kept_ok x.target v st1 h1))
+
+pub first_ok : (p : Program) → Ok [] (first_state p).next (first_state p).store.closures
+unfolding first_state
+first_ok p = record { sound = tt; under = tt; homes = tt }
 
 pub rules_targets_stand : RulesTargetsStand
 rules_targets_stand p e st r =
