@@ -63,3 +63,5 @@ pub mod KnownTrees
 pub mod KnownMade
 pub mod KnownProgram
 pub mod Watched
+pub mod SelvesSends
+pub mod SelvesMachine

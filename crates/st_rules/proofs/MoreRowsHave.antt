@@ -1,5 +1,5 @@
 -- What messages to objects, collections, blocks and exceptions do at once gives values that are there.
-use Rattle.std.proofs.Common.{ℕ, suc, ◌+◌, ◌-◌, ◌<◌, ℤ, pos, negsuc, nat_eq, nat_le, nat_lt, int_lt, int_le, is_some, codes, length, get_or, take, drop, reverse, replicate, map, insert, List, [], ◌∷◌, ◌++◌, Option, Some, None, Bool, true, false, not, ◌&&◌, ◌||◌, if◌then◌else◌}
+use Rattle.std.proofs.Common.{refl, ℕ, suc, ◌+◌, ◌-◌, ◌<◌, ℤ, pos, negsuc, nat_eq, nat_le, nat_lt, int_lt, int_le, is_some, codes, length, get_or, take, drop, reverse, replicate, map, insert, List, [], ◌∷◌, ◌++◌, Option, Some, None, Bool, true, false, not, ◌&&◌, ◌||◌, if◌then◌else◌}
 use Rattle.object_heap.specs.declared.value.Value.{Value}
 use Rattle.object_heap.specs.declared.value.Value.TheVariants.{Nil, True, False, Integer, Character, Symbol, Class, Meta, Transcript, Object}
 use Rattle.object_heap.specs.declared.trouble.Trouble.{Trouble}
@@ -395,7 +395,7 @@ module _ (p : Program) (s : Store) (h : ObjectsHave (length s.objects) s.objects
 
   pub elements_grown : (n : ℕ) (slots : List Value) → AllHave k slots → Grown s (with_elements s n slots).store
   unfolding with_elements
-  elements_grown n slots g = grown_set s h n _ g
+  elements_grown n slots g = grown_set s h n _ refl g
 
   pub elements_keep : (n : ℕ) (slots : List Value) (v : Value) → Has k v → Has (length (with_elements s n slots).store.objects) v
   unfolding with_elements
@@ -406,7 +406,7 @@ module _ (p : Program) (s : Store) (h : ObjectsHave (length s.objects) s.objects
 
   pub element_removed : (n i : ℕ) → Grown s (without_element s n i)
   unfolding without_element
-  element_removed n i = grown_set s h n _ (append_has k (take i (object_at n s).slots) (drop (suc i) (object_at n s).slots) (take_has k i (object_at n s).slots (object_slots s h n)) (drop_has k (suc i) (object_at n s).slots (object_slots s h n)))
+  element_removed n i = grown_set s h n _ refl (append_has k (take i (object_at n s).slots) (drop (suc i) (object_at n s).slots) (take_has k i (object_at n s).slots (object_slots s h n)) (drop_has k (suc i) (object_at n s).slots (object_slots s h n)))
 
   pub removed_keeps : (n i : ℕ) (v : Value) → Has k v → Has (length (without_element s n i).objects) v
   unfolding without_element

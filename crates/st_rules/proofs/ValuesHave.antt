@@ -1,6 +1,6 @@
 -- Values that are no objects or one of the first so many: in lists, objects and stores.
 use Rattle.std.proofs.Common.{◌≡◌, ℕ, zero, suc, ◌+◌, ◌<◌, ◌≤◌, length, get_or, take, drop, reverse, replicate, slice_set, List, [], ◌∷◌, ◌++◌, Option, Some, None, Bool, true, false, refl, sym, ap, ◌∙◌, subst, arith}
-use Rattle.std.proofs.lemmas.List.{length-append, reverse-append}
+use Rattle.std.proofs.lemmas.List.{length-append, reverse-append, get_or_append_left}
 use Rattle.object_heap.specs.declared.value.Value.{Value}
 use Rattle.object_heap.specs.declared.value.Value.TheVariants.{Nil, True, False, Integer, Character, Symbol, Class, Meta, Transcript, Object}
 use Rattle.object_heap.specs.declared.value.Closure.{Closure}
@@ -178,16 +178,24 @@ set_size [] n o = refl
 set_size (q ∷ os) zero o = refl
 set_size (q ∷ os) (suc n) o = ap suc (set_size os n o)
 
+-- the class of each object, where one is set of the class that was there
+set_class : (os : List HeapObject) (n m : ℕ) (o : HeapObject) → o.class ≡ (get_or os n no_object).class → (get_or (slice_set os n o) m no_object).class ≡ (get_or os m no_object).class
+set_class [] n m o c = refl
+set_class (q ∷ os) zero zero o c = c
+set_class (q ∷ os) zero (suc m) o c = refl
+set_class (q ∷ os) (suc n) zero o c = refl
+set_class (q ∷ os) (suc n) (suc m) o c = set_class os n m o c
+
 -- ---- stores
 
 pub one_more : (s : Store) (o : HeapObject) → length (s.objects ++ o ∷ []) ≡ length s.objects + 1
 one_more s o = length-append s.objects (o ∷ [])
 
 pub grown_itself : (s : Store) → ObjectsHave (length s.objects) s.objects → Grown s s
-grown_itself s h = record { closures = refl; scopes = refl; more = omega arith; objects = h }
+grown_itself s h = record { closures = refl; scopes = refl; more = omega arith; classes = λ n l. refl; objects = h }
 
 pub grown_on : (s t u : Store) → Grown s t → Grown t u → Grown s u
-grown_on s t u a b = record { closures = b.closures ∙ a.closures; scopes = b.scopes ∙ a.scopes; more = omega (arith, a.more, b.more); objects = b.objects }
+grown_on s t u a b = record { closures = b.closures ∙ a.closures; scopes = b.scopes ∙ a.scopes; more = omega (arith, a.more, b.more); classes = λ n l. b.classes n (omega (arith, l, a.more)) ∙ a.classes n l; objects = b.objects }
 
 module _ (s : Store) (h : ObjectsHave (length s.objects) s.objects) where
   -- one more object, of these slots
@@ -195,7 +203,7 @@ module _ (s : Store) (h : ObjectsHave (length s.objects) s.objects) where
   grown_added o g =
       let e = one_more s o in
       let le : length s.objects ≤ length (s.objects ++ o ∷ []) = omega (arith, e) in
-      record { closures = refl; scopes = refl; more = le; objects = objects_append _ s.objects (o ∷ []) (objects_later _ _ le s.objects h) (all_later _ _ le o.slots g, tt) }
+      record { closures = refl; scopes = refl; more = le; classes = λ n l. ap (λ (q : HeapObject). q.class) (get_or_append_left s.objects (o ∷ []) no_object n l); objects = objects_append _ s.objects (o ∷ []) (objects_later _ _ le s.objects h) (all_later _ _ le o.slots g, tt) }
 
   pub next_has : (o : HeapObject) → length s.objects < length (s.objects ++ o ∷ [])
   next_has o = let e = one_more s o in omega (arith, e)
@@ -209,10 +217,10 @@ module _ (s : Store) (h : ObjectsHave (length s.objects) s.objects) where
   next_new class slots bytes = next_has _
 
   -- an object with other slots
-  pub grown_set : (n : ℕ) (o : HeapObject) → AllHave (length s.objects) o.slots → Grown s (object_set n o s)
-  grown_set n o g =
+  pub grown_set : (n : ℕ) (o : HeapObject) → o.class ≡ (object_at n s).class → AllHave (length s.objects) o.slots → Grown s (object_set n o s)
+  grown_set n o c g =
       let e = set_size s.objects n o in
-      record { closures = refl; scopes = refl; more = omega (arith, e); objects = subst (λ k. ObjectsHave k (slice_set s.objects n o)) (sym e) (objects_set (length s.objects) s.objects n o h g) }
+      record { closures = refl; scopes = refl; more = omega (arith, e); classes = λ m l. set_class s.objects n m o c; objects = subst (λ k. ObjectsHave k (slice_set s.objects n o)) (sym e) (objects_set (length s.objects) s.objects n o h g) }
 
   pub set_keeps : (n : ℕ) (o : HeapObject) (v : Value) → Has (length s.objects) v → Has (length (object_set n o s).objects) v
   set_keeps n o v g = subst (λ k. Has k v) (sym (set_size s.objects n o)) g
@@ -221,7 +229,7 @@ module _ (s : Store) (h : ObjectsHave (length s.objects) s.objects) where
   object_slots n = slots_at (length s.objects) s.objects n h
 
   pub grown_slot : (n i : ℕ) (v : Value) → Has (length s.objects) v → Grown s (with_slot n i v s)
-  grown_slot n i v g = grown_set n _ (set_has (length s.objects) (object_at n s).slots i v (object_slots n) g)
+  grown_slot n i v g = grown_set n _ refl (set_has (length s.objects) (object_at n s).slots i v (object_slots n) g)
 
   pub grown_byte : (n i byte : ℕ) → Grown s (with_byte n i byte s)
-  grown_byte n i byte = grown_set n _ (object_slots n)
+  grown_byte n i byte = grown_set n _ refl (object_slots n)

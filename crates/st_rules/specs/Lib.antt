@@ -26,3 +26,4 @@ pub mod SameRun
 pub mod NothingMissing
 pub mod Objects
 pub mod Watched
+pub mod Selves

@@ -5,7 +5,7 @@ use Rattle.object_heap.specs.declared.value.Value.TheVariants.{Object}
 use Rattle.object_heap.specs.declared.value.Closure.{Closure}
 use Rattle.object_heap.specs.declared.trouble.Trouble.{Trouble}
 use Rattle.object_heap.specs.Troubles.{place_of}
-use Rattle.object_heap.specs.Store.{Store, Scope, Object as HeapObject}
+use Rattle.object_heap.specs.Store.{Store, Scope, Object as HeapObject, object_at}
 use Rattle.st_code.specs.declared.instruction.Variable.TheVariants.{Shared}
 use Rattle.st_code.specs.declared.instruction.Instruction.{Instruction}
 use Rattle.st_code.specs.declared.instruction.Instruction.TheVariants.{PushConstant, PushVariable, Store as StoreVariable}
@@ -121,11 +121,12 @@ LoopHas k l = Has k l.receiver × AllHave k l.arguments × Has k l.made × Has k
 
 -- ---- what messages do at once
 
--- a store with the closures and scopes of another, no fewer objects, and values that are there
+-- a store with the closures and scopes of another, no fewer objects, each of its class, and values that are there
 pub record Grown (s s' : Store) : Type 0 where
   pub closures : s'.closures ≡ s.closures
   pub scopes : s'.scopes ≡ s.scopes
   pub more : length s.objects ≤ length s'.objects
+  pub classes : (n : ℕ) → n < length s.objects → (object_at n s').class ≡ (object_at n s).class
   pub objects : ObjectsHave (length s'.objects) s'.objects
 
 abbrev pub VisitHas : Store → Visit → Type 0
