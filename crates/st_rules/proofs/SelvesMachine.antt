@@ -1,10 +1,10 @@
 -- Self is of the class that a body is written in: a law for each small step of the flat machine.
-use Rattle.std.proofs.Common.{◌≡◌, ℕ, zero, suc, ◌+◌, ◌<◌, ◌≤◌, max, length, List, [], ◌∷◌, ◌++◌, Option, Some, None, Bool, true, false, refl, sym, ap, ◌∙◌, subst, arith, nat_lt, nat_le, if◌then◌else◌}
+use Rattle.std.proofs.Common.{◌≡◌, ℕ, zero, suc, ◌+◌, ◌<◌, ◌≤◌, max, length, List, [], ◌∷◌, ◌++◌, Option, Some, None, Bool, true, false, drop, lt-ltb, refl, sym, ap, ◌∙◌, subst, arith, nat_lt, nat_le, if◌then◌else◌}
 use Rattle.object_heap.specs.declared.value.Value.{Value}
 use Rattle.object_heap.specs.declared.value.Value.TheVariants.{Nil, True, False, Integer, Character, Symbol, Class, Meta, Transcript, Object}
 use Rattle.object_heap.specs.declared.value.Closure.{Closure}
 use Rattle.object_heap.specs.Store.{Store, object_at}
-use Rattle.st_code.specs.Program.{Program, OfInstance, body_at, class_at}
+use Rattle.st_code.specs.Program.{Program, Initializer, OfInstance, body_at, class_at}
 use Rattle.st_code.specs.Messages.{Control}
 use Rattle.st_code.specs.Lookup.{level, level_of, walk, class_level, is_plain, fits, is_exception}
 use Rattle.st_collections.specs.Actions.{Action, Gives, Changes, Makes, Writes, Fails, DividesByZero, PassesIntegers, Begins, Activates, Sends, Misses, Enters, Guards, Ensures, Curtails, Iterates, Raises, RaisesNew, Controls, Terminates, Visit, Applies, Compares, Finishes, Lacks, Charges, next_object, with_new}
@@ -14,10 +14,14 @@ use Rattle.st_rules.specs.State.{State, Entry, Env, Target, Outcome, Answer, Go,
 use Rattle.st_rules.specs.Ends.{charged, ended, with_arguments, with_message, Opening, block_opening, method_opening, turn_end, outer_end, SignalVerdict, Ends, Signals, signal_end, Verdict, Leaves, Again, protect_end, Search, asks_nested, Wait, ToResume, ToOuter}
 use Rattle.st_rules.specs.Rules.{Use, Apply, Activate, Enter, SendTo, SuperTo, Perform, Raise, RaiseNew, SignalPoint, Resignaled, SearchIn, TurnBy, Ask, Protect, Finish, VisitBy, RunBody, closure_for, apply_by, handler_by, exception_slots, with_exception, exception_cells}
 use Rattle.st_rules.specs.Machine.{Act, BodyAct, Leaving, ProtectAct, EnsureOn, CurtailOn, ActionOff, SignalAct, HandlerRun, OuterAct, ResumeWait, HandlesWait, LoopAct, Mach, Run, Settle, Begin, Over, Stuck, Bodies, marks, open_act, raise_act, raise_new_act, tried_act, judged_act, search_act, turn_act, asked_act, resignal_act, resignal_as_act, control_by_act, control_without_act, control_in_act, control_act, visit_act, perform_act, begin, protect_verdict, signal_verdict, give, unwind, step}
-use Rattle.st_rules.specs.Flat.{FlatBody, flat_number}
+use Rattle.st_code.specs.declared.instruction.Instruction.{Instruction}
+use Rattle.st_code.specs.Compiled.{compile_of}
+use Rattle.st_rules.specs.Flat.{FlatBody, flat_number, code_at, operand_pushed, greatest_width}
+use Rattle.st_rules.specs.Turns.{On}
+use Rattle.st_rules.specs.NothingMissing.{HasRoom, ValueHas}
 use Rattle.st_rules.specs.Flattened.{flat_of}
 use Rattle.st_rules.specs.Objects.{Has, AllHave, ObjectsHave, ClosureHas, ClosuresHave, Grown, VisitHas, ActionHas, UseHas, BodyHas, ActHas, ActsHave, StateHas, MachHas, KnowsLiterals}
-use Rattle.st_rules.specs.Selves.{OnWalk, IsOf, KnowsClasses, BodyFits, ActFits, ActsFit}
+use Rattle.st_rules.specs.Selves.{SendsToSelf, OnWalk, IsOf, KnowsClasses, BodyFits, ActFits, ActsFit}
 use Rattle.st_rules.proofs.ValuesHave.{append_has, take_has, nils_have, grown_new, next_new}
 use Rattle.st_rules.proofs.ObjectsMachine.{Here, size, grown_here}
 use Rattle.st_rules.proofs.SelvesSends.{ClosureFits, ClosuresFit, ClosureOrNone, ActionFits, closure_for_fits, send_fits, super_fits}
@@ -63,10 +67,52 @@ module _ (p : Program) (s t : Store) (classes : (n : ℕ) → n < length s.objec
   acts_later [] h g = tt
   acts_later (a ∷ acts) h g = (act_later a h.0 g.0, acts_later acts h.1 g.1)
 
+-- ---- the operands that are self
+
+abbrev pub Flags : List Bool → List Value → Value → Type 0
+Flags [] ops self = Unit {0}
+Flags (b ∷ flags) [] self = ⊥
+Flags (true ∷ flags) (v ∷ ops) self = (v ≡ self) × Flags flags ops self
+Flags (false ∷ flags) (v ∷ ops) self = Flags flags ops self
+
+abbrev pub code_from : Program → FlatBody → ℕ → List Instruction
+code_from p x position = drop position (code_at (compile_of p) x.code).instructions
+
+-- a body at its next instruction, and one that waits at the instruction before
+abbrev pub Runs : Program → FlatBody → Type 0
+Runs p x = (flags : List Bool) × Flags flags x.operands x.self × SendsToSelf (code_from p x x.position) flags
+
+abbrev pub Waits : Program → FlatBody → Type 0
+Waits p x = (flags : List Bool) × Flags flags x.operands x.self × SendsToSelf (code_from p x (x.position + 1)) (false ∷ flags)
+
+-- room for a value that a body is given
+abbrev pub RoomFor : Program → Act FlatBody → Type 0
+RoomFor p (BodyAct x) = HasRoom p x
+RoomFor p a = Unit {0}
+
+room_for : (p : Program) (target : Option ℕ) (xs : List Initializer) (v : Value) (a : Act FlatBody) (acts : List (Act FlatBody)) (st : State) → ValueHas p (On target xs (Settle (Answer v) (a ∷ acts) st)) → RoomFor p a
+room_for p target xs v (BodyAct x) acts st h = h.1
+room_for p target xs v a acts st h = tt
+
+-- operands with one more, where there's room
+pub pushed_is : (p : Program) (v : Value) (ops : List Value) → length ops < greatest_width (compile_of p) → operand_pushed (greatest_width (compile_of p)) v ops ≡ v ∷ ops
+pushed_is p v ops l = ap (λ b. if b then v ∷ ops else ops) (lt-ltb (length ops) (greatest_width (compile_of p)) l)
+
+pub given_runs : (p : Program) (v : Value) (x : FlatBody) → HasRoom p x → Waits p x → Runs p ((flat_of p).given v x)
+given_runs p v x room w = (false ∷ w.0, subst (λ ops. Flags (false ∷ w.0) ops x.self) (sym (pushed_is p v x.operands room)) w.1, w.2)
+
+abbrev pub ActWaits : Program → Act FlatBody → Type 0
+ActWaits p (BodyAct x) = Waits p x
+ActWaits p a = Unit {0}
+
+abbrev pub ActsWait : Program → List (Act FlatBody) → Type 0
+ActsWait p [] = Unit {0}
+ActsWait p (a ∷ acts) = ActWaits p a × ActsWait p acts
+
 -- ---- what holds
 
 abbrev pub Rest : Program → List (Act FlatBody) → State → Type 0
-Rest p acts st = ClosuresFit p st.store st.store.closures × ActsFit p st.store acts
+Rest p acts st = ClosuresFit p st.store st.store.closures × (ActsFit p st.store acts × ActsWait p acts)
 
 abbrev pub UseFits : Program → Store → Use → Type 0
 UseFits p s (Activate c args env) = ClosureFits p s c
@@ -76,7 +122,7 @@ UseFits p s (Perform a env) = ActionFits p s a
 UseFits p s u = Unit {0}
 
 abbrev pub MachFits : Program → Mach FlatBody → Type 0
-MachFits p (Run x acts st) = Rest p acts st × BodyFits p st.store x
+MachFits p (Run x acts st) = Rest p acts st × (BodyFits p st.store x × Runs p x)
 MachFits p (Settle o acts st) = Rest p acts st
 MachFits p (Begin u acts st) = Rest p acts st × UseFits p st.store u
 MachFits p (Over o st) = ClosuresFit p st.store st.store.closures
@@ -104,7 +150,7 @@ message_grows c array s h g = grown_new s h _ (Symbol c ∷ array ∷ []) [] (tt
 
 pub grown_rest : (p : Program) (acts : List (Act FlatBody)) (st : State) (s : Store) → Here p acts st → Rest p acts st → Grown st.store s → Rest p acts (record st { store = s })
 grown_rest p acts st s h r e =
-    (subst (λ cs. ClosuresFit p s cs) (sym e.closures) (closures_later p st.store s e.classes st.store.closures h.0.3 r.0), acts_later p st.store s e.classes acts h.1 r.1)
+    (subst (λ cs. ClosuresFit p s cs) (sym e.closures) (closures_later p st.store s e.classes st.store.closures h.0.3 r.0), (acts_later p st.store s e.classes acts h.1 r.1.0, r.1.1))
 
 module _ (p : Program) where
   -- ---- charges
@@ -159,7 +205,7 @@ module _ (p : Program) (known : KnowsLiterals p) (knows : KnowsClasses p) where
 
     judged_fits : (a : Bool) (x : Search) (entry : Entry) (rest : Env) (acts : List (Act FlatBody)) (st : State) → Rest p acts st → MachFits p (judged_act F p a x entry rest acts st)
     judged_fits true x entry rest acts st r = tried_fits (fits p st.store entry.selector (object_at x.exception st.store).class) x entry rest acts st r
-    judged_fits false x entry rest acts st r = stood_fits p (M acts) st _ _ r (λ d n. ((r.0, (tt, r.1)), tt))
+    judged_fits false x entry rest acts st r = stood_fits p (M acts) st _ _ r (λ d n. ((r.0, ((tt, r.1.0), (tt, r.1.1))), tt))
 
     search_fits : (x : Search) (rest : Env) (acts : List (Act FlatBody)) (st : State) → Rest p acts st → MachFits p (search_act F p x rest acts st)
     search_fits x [] acts st r = (r, tt)
@@ -172,14 +218,14 @@ module _ (p : Program) (known : KnowsLiterals p) (knows : KnowsClasses p) where
     turn_fits : (a : Bool) (x : Search) (entry : Option Entry) (outside : Env) (acts : List (Act FlatBody)) (st : State) → Rest p acts st → MachFits p (turn_act F p a x entry outside acts st)
     turn_fits true x None outside acts st r = r
     turn_fits true x (Some entry) outside acts st r = r
-    turn_fits false x None outside acts st r = stood_fits p (M acts) st _ _ r (λ d n. ((r.0, (tt, r.1)), tt))
+    turn_fits false x None outside acts st r = stood_fits p (M acts) st _ _ r (λ d n. ((r.0, ((tt, r.1.0), (tt, r.1.1))), tt))
     turn_fits false x (Some entry) outside acts st r =
-        stood_fits p (M acts) st _ _ r (λ d n. ((r.0, (tt, r.1)), handler_fits st.store (closure_for p st.store entry.handler 0) entry.handler x.exception outside (closure_for_fits p knows st.store r.0 entry.handler 0)))
+        stood_fits p (M acts) st _ _ r (λ d n. ((r.0, ((tt, r.1.0), (tt, r.1.1))), handler_fits st.store (closure_for p st.store entry.handler 0) entry.handler x.exception outside (closure_for_fits p knows st.store r.0 entry.handler 0)))
 
     asked_fits : (a : Bool) (w : Wait) (k : ℕ) (t : Turn) (env : Env) (acts : List (Act FlatBody)) (st : State) → Rest p acts st → MachFits p (asked_act F p a w k t env acts st)
     asked_fits true (ToResume v) k t env acts st r = r
     asked_fits false (ToResume v) k t env acts st r = (r, tt)
-    asked_fits true ToOuter k t env acts st r = stood_fits p (M acts) st _ _ r (λ d n. ((r.0, (tt, r.1)), tt))
+    asked_fits true ToOuter k t env acts st r = stood_fits p (M acts) st _ _ r (λ d n. ((r.0, ((tt, r.1.0), (tt, r.1.1))), tt))
     asked_fits false ToOuter k t env acts st r = (r, tt)
 
     resignal_fits : (a live : Bool) (t : Turn) (f : ℕ) (v : Value) (env : Env) (acts : List (Act FlatBody)) (st : State) → Rest p acts st → MachFits p (resignal_act F p a live t f v env acts st)
@@ -216,10 +262,10 @@ module _ (p : Program) (known : KnowsLiterals p) (knows : KnowsClasses p) where
     -- ---- loops, and what a message does at once
 
     visit_fits : (n : ℕ) (v : Visit) (env : Env) (acts : List (Act FlatBody)) (st : State) → Here p acts st → VisitHas st.store v → Rest p acts st → MachFits p (visit_act F p n v env acts st)
-    visit_fits n (Applies l v args) env acts st h g r = ((r.0, (tt, r.1)), tt)
-    visit_fits n (Compares l x v) env acts st h g r = ((r.0, (tt, r.1)), tt)
+    visit_fits n (Applies l v args) env acts st h g r = ((r.0, ((tt, r.1.0), (tt, r.1.1))), tt)
+    visit_fits n (Compares l x v) env acts st h g r = ((r.0, ((tt, r.1.0), (tt, r.1.1))), tt)
     visit_fits n (Finishes v) env acts st h g r = r
-    visit_fits n (Lacks l) env acts st h g r = ((r.0, (tt, r.1)), tt)
+    visit_fits n (Lacks l) env acts st h g r = ((r.0, ((tt, r.1.0), (tt, r.1.1))), tt)
     visit_fits n (Charges cells s v) env acts st h g r =
         used_fits p cells st _ _ r (λ c. visit_fits n v env acts (record st { cells = c; store = s }) (grown_here p acts st s h g.0) g.1 (grown_rest p acts st s h r g.0))
 
@@ -247,8 +293,8 @@ module _ (p : Program) (known : KnowsLiterals p) (knows : KnowsClasses p) where
     perform_fits (Misses selector x args) env acts st h g r f = missed_fits selector x args env acts st h g.1 r
     perform_fits (Enters code x args) env acts st h g r f = (r, f)
     perform_fits (Guards receiver selector handler) env acts st h g r f = stood_fits p (M acts) st _ _ r (λ d n. (r, tt))
-    perform_fits (Ensures receiver block) env acts st h g r f = stood_fits p (M acts) st _ _ r (λ d n. ((r.0, (tt, r.1)), tt))
-    perform_fits (Curtails receiver block) env acts st h g r f = stood_fits p (M acts) st _ _ r (λ d n. ((r.0, (tt, r.1)), tt))
+    perform_fits (Ensures receiver block) env acts st h g r f = stood_fits p (M acts) st _ _ r (λ d n. ((r.0, ((tt, r.1.0), (tt, r.1.1))), tt))
+    perform_fits (Curtails receiver block) env acts st h g r f = stood_fits p (M acts) st _ _ r (λ d n. ((r.0, ((tt, r.1.0), (tt, r.1.1))), tt))
     perform_fits (Iterates l) env acts st h g r f = stood_fits p (M acts) st _ _ r (λ d n. (r, tt))
     perform_fits (Raises s x) env acts st h g r f = (grown_rest p acts st s h r g.0, tt)
     perform_fits (RaisesNew class slots) env acts st h g r f = (r, tt)
@@ -270,13 +316,13 @@ module _ (p : Program) (known : KnowsLiterals p) (knows : KnowsClasses p) where
     begin_fits (Perform a env) acts st h u r f = perform_fits a env acts st h u.0 r f
     begin_fits (Raise e env) acts st h u r f = raise_fits (is_live e (M acts)) e env acts st r
     begin_fits (RaiseNew class slots env) acts st h u r f = raise_new_fits class slots env acts st h u.0 r
-    begin_fits (SignalPoint n e env) acts st h u r f = ((r.0, (tt, r.1)), tt)
-    begin_fits (Resignaled n e x env) acts st h u r f = ((r.0, (tt, r.1)), tt)
+    begin_fits (SignalPoint n e env) acts st h u r f = ((r.0, ((tt, r.1.0), (tt, r.1.1))), tt)
+    begin_fits (Resignaled n e x env) acts st h u r f = ((r.0, ((tt, r.1.0), (tt, r.1.1))), tt)
     begin_fits (SearchIn x rest) acts st h u r f = search_fits x rest acts st r
     begin_fits (TurnBy x entry outside) acts st h u r f = turn_fits (asks_nested x) x entry outside acts st r
-    begin_fits (Ask w k t env) acts st h u r f = stood_fits p (M acts) st _ _ r (λ d n. ((r.0, (tt, r.1)), tt))
-    begin_fits (Protect receiver entry env) acts st h u r f = ((r.0, (tt, r.1)), tt)
-    begin_fits (Finish n block held env) acts st h u r f = ((r.0, (tt, r.1)), tt)
+    begin_fits (Ask w k t env) acts st h u r f = stood_fits p (M acts) st _ _ r (λ d n. ((r.0, ((tt, r.1.0), (tt, r.1.1))), tt))
+    begin_fits (Protect receiver entry env) acts st h u r f = ((r.0, ((tt, r.1.0), (tt, r.1.1))), tt)
+    begin_fits (Finish n block held env) acts st h u r f = ((r.0, ((tt, r.1.0), (tt, r.1.1))), tt)
     begin_fits (VisitBy n v env) acts st h u r f = visit_fits n v env acts st h u.0 r
     begin_fits (RunBody x env) acts st h u r f = tt
 
@@ -295,37 +341,37 @@ module _ (p : Program) (known : KnowsLiterals p) (knows : KnowsClasses p) where
     signal_fits n e (Ends o) env acts st r = ended_fits n o acts st r
     signal_fits n e (Signals f) env acts st r = (r, tt)
 
-    give_fits : (v : Value) (a : Act FlatBody) (acts : List (Act FlatBody)) (st : State) → Rest p (a ∷ acts) st → MachFits p (give F p v a acts st)
-    give_fits v (BodyAct x) acts st r = ((r.0, r.1.1), r.1.0)
-    give_fits v (Leaving x) acts st r = (r.0, r.1.1)
-    give_fits v (ProtectAct receiver entry env) acts st r = protect_fits (protect_end entry.number receiver (Answer v)) entry env acts st (r.0, r.1.1)
-    give_fits v (EnsureOn n block env) acts st r = ((r.0, r.1.1), tt)
-    give_fits v (CurtailOn n block env) acts st r = (r.0, r.1.1)
-    give_fits v (ActionOff n held) acts st r = ended_fits n held acts st (r.0, r.1.1)
-    give_fits v (SignalAct n e env) acts st r = signal_fits n e (signal_end n (Answer v)) env acts st (r.0, r.1.1)
-    give_fits v (HandlerRun n t) acts st r = ended_fits n (turn_end t (M acts) (Answer v)) acts st (r.0, r.1.1)
-    give_fits v (OuterAct n) acts st r = (r.0, r.1.1)
-    give_fits v (ResumeWait n w k t env) acts st r = asked_fits (is_true v) w k t env acts st (r.0, r.1.1)
-    give_fits v (HandlesWait n x entry rest) acts st r = tried_fits (is_true v) x entry rest acts (ended n (Answer v) st) (r.0, r.1.1)
-    give_fits v (LoopAct n l env) acts st r = ((r.0, r.1.1), tt)
+    give_fits : (v : Value) (a : Act FlatBody) (acts : List (Act FlatBody)) (st : State) → RoomFor p a → Rest p (a ∷ acts) st → MachFits p (give F p v a acts st)
+    give_fits v (BodyAct x) acts st room r = ((r.0, (r.1.0.1, r.1.1.1)), (r.1.0.0, given_runs p v x room r.1.1.0))
+    give_fits v (Leaving x) acts st room r = (r.0, (r.1.0.1, r.1.1.1))
+    give_fits v (ProtectAct receiver entry env) acts st room r = protect_fits (protect_end entry.number receiver (Answer v)) entry env acts st (r.0, (r.1.0.1, r.1.1.1))
+    give_fits v (EnsureOn n block env) acts st room r = ((r.0, (r.1.0.1, r.1.1.1)), tt)
+    give_fits v (CurtailOn n block env) acts st room r = (r.0, (r.1.0.1, r.1.1.1))
+    give_fits v (ActionOff n held) acts st room r = ended_fits n held acts st (r.0, (r.1.0.1, r.1.1.1))
+    give_fits v (SignalAct n e env) acts st room r = signal_fits n e (signal_end n (Answer v)) env acts st (r.0, (r.1.0.1, r.1.1.1))
+    give_fits v (HandlerRun n t) acts st room r = ended_fits n (turn_end t (M acts) (Answer v)) acts st (r.0, (r.1.0.1, r.1.1.1))
+    give_fits v (OuterAct n) acts st room r = (r.0, (r.1.0.1, r.1.1.1))
+    give_fits v (ResumeWait n w k t env) acts st room r = asked_fits (is_true v) w k t env acts st (r.0, (r.1.0.1, r.1.1.1))
+    give_fits v (HandlesWait n x entry rest) acts st room r = tried_fits (is_true v) x entry rest acts (ended n (Answer v) st) (r.0, (r.1.0.1, r.1.1.1))
+    give_fits v (LoopAct n l env) acts st room r = ((r.0, (r.1.0.1, r.1.1.1)), tt)
 
     unwind_fits : (t : Target) (v : Value) (a : Act FlatBody) (acts : List (Act FlatBody)) (st : State) → Rest p (a ∷ acts) st → MachFits p (unwind F p t v a acts st)
-    unwind_fits t v (BodyAct x) acts st r = (r.0, r.1.1)
-    unwind_fits t v (Leaving x) acts st r = (r.0, r.1.1)
-    unwind_fits t v (ProtectAct receiver entry env) acts st r = protect_fits (protect_end entry.number receiver (Go t v)) entry env acts st (r.0, r.1.1)
-    unwind_fits t v (EnsureOn n block env) acts st r = ((r.0, r.1.1), tt)
-    unwind_fits t v (CurtailOn n block env) acts st r = ((r.0, r.1.1), tt)
-    unwind_fits t v (ActionOff n held) acts st r = (r.0, r.1.1)
-    unwind_fits t v (SignalAct n e env) acts st r = signal_fits n e (signal_end n (Go t v)) env acts st (r.0, r.1.1)
-    unwind_fits t v (HandlerRun n turn) acts st r = (r.0, r.1.1)
-    unwind_fits t v (OuterAct n) acts st r = ended_fits n (outer_end n (Go t v)) acts st (r.0, r.1.1)
-    unwind_fits t v (ResumeWait n w k turn env) acts st r = (r.0, r.1.1)
-    unwind_fits t v (HandlesWait n x entry rest) acts st r = (r.0, r.1.1)
-    unwind_fits t v (LoopAct n l env) acts st r = (r.0, r.1.1)
+    unwind_fits t v (BodyAct x) acts st r = (r.0, (r.1.0.1, r.1.1.1))
+    unwind_fits t v (Leaving x) acts st r = (r.0, (r.1.0.1, r.1.1.1))
+    unwind_fits t v (ProtectAct receiver entry env) acts st r = protect_fits (protect_end entry.number receiver (Go t v)) entry env acts st (r.0, (r.1.0.1, r.1.1.1))
+    unwind_fits t v (EnsureOn n block env) acts st r = ((r.0, (r.1.0.1, r.1.1.1)), tt)
+    unwind_fits t v (CurtailOn n block env) acts st r = ((r.0, (r.1.0.1, r.1.1.1)), tt)
+    unwind_fits t v (ActionOff n held) acts st r = (r.0, (r.1.0.1, r.1.1.1))
+    unwind_fits t v (SignalAct n e env) acts st r = signal_fits n e (signal_end n (Go t v)) env acts st (r.0, (r.1.0.1, r.1.1.1))
+    unwind_fits t v (HandlerRun n turn) acts st r = (r.0, (r.1.0.1, r.1.1.1))
+    unwind_fits t v (OuterAct n) acts st r = ended_fits n (outer_end n (Go t v)) acts st (r.0, (r.1.0.1, r.1.1.1))
+    unwind_fits t v (ResumeWait n w k turn env) acts st r = (r.0, (r.1.0.1, r.1.1.1))
+    unwind_fits t v (HandlesWait n x entry rest) acts st r = (r.0, (r.1.0.1, r.1.1.1))
+    unwind_fits t v (LoopAct n l env) acts st r = (r.0, (r.1.0.1, r.1.1.1))
 
-    pub settle_fits : (o : Outcome) (acts : List (Act FlatBody)) (st : State) → Rest p acts st → MachFits p (step F p (Settle o acts st))
-    settle_fits (Answer v) [] st r = r.0
-    settle_fits (Answer v) (a ∷ acts) st r = give_fits v a acts st r
-    settle_fits (Go t v) [] st r = r.0
-    settle_fits (Go t v) (a ∷ acts) st r = unwind_fits t v a acts st r
-    settle_fits (Stop l) acts st r = r.0
+    pub settle_fits : (target : Option ℕ) (xs : List Initializer) (o : Outcome) (acts : List (Act FlatBody)) (st : State) → ValueHas p (On target xs (Settle o acts st)) → Rest p acts st → MachFits p (step F p (Settle o acts st))
+    settle_fits target xs (Answer v) [] st room r = r.0
+    settle_fits target xs (Answer v) (a ∷ acts) st room r = give_fits v a acts st (room_for p target xs v a acts st room) r
+    settle_fits target xs (Go t v) [] st room r = r.0
+    settle_fits target xs (Go t v) (a ∷ acts) st room r = unwind_fits t v a acts st r
+    settle_fits target xs (Stop l) acts st room r = r.0
