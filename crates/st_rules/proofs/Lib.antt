@@ -65,3 +65,4 @@ pub mod KnownProgram
 pub mod Watched
 pub mod SelvesSends
 pub mod SelvesMachine
+pub mod SelvesRun

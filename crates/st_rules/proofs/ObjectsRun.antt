@@ -140,7 +140,7 @@ module _ (p : Program) (known : KnowsLiterals p) where
   -- ---- instructions
 
   -- a body that goes on
-  abbrev Goes : FlatBody → List (Act FlatBody) → State → Type 0
+  abbrev pub Goes : FlatBody → List (Act FlatBody) → State → Type 0
   Goes x acts st = StateHas p st × BodyHas (size st) x × ActsHave (size st) acts
 
   variable_has : (o : Option ℕ) (index : ℕ) (s : Store) → ScopesHave (length s.objects) s.scopes → Has (length s.objects) (variable_of o index s)
@@ -248,20 +248,20 @@ module _ (p : Program) (known : KnowsLiterals p) where
 
   -- ---- a run
 
-  abbrev TopKeeps : Top FlatBody → Type 0
+  abbrev pub TopKeeps : Top FlatBody → Type 0
   TopKeeps (On target xs m) = MachHas p m × SelvesHave (length p.literals) xs
   TopKeeps (Ended e st) = StateHas p st
 
-  kept_has : (target : Option ℕ) (v : Value) (st : State) → StateHas p st → Has (size st) v → StateHas p (kept_value target v st)
+  pub kept_has : (target : Option ℕ) (v : Value) (st : State) → StateHas p st → Has (size st) v → StateHas p (kept_value target v st)
   kept_has None v st h g = h
   kept_has (Some place) v st h g = (h.0, h.1, h.2, h.3, set_has (size st) st.variables place v h.4 g)
 
-  opened_keeps : (xs : List Initializer) (st : State) → StateHas p st → SelvesHave (length p.literals) xs → TopKeeps (open_next F p xs st)
+  pub opened_keeps : (xs : List Initializer) (st : State) → StateHas p st → SelvesHave (length p.literals) xs → TopKeeps (open_next F p xs st)
   opened_keeps [] st h g = h
   opened_keeps (x ∷ xs) st h g =
       (open_has p known opens (initializer_opening p x st.next) [] st (h, tt) (record { self = has_later (length p.literals) (size st) h.0 x.self g.0; class = has_later (length p.literals) (size st) h.0 (body_at p x.code).class (known.classes x.code); arguments = tt; env = tt }), g.1)
 
-  top_keeps : (t : Top FlatBody) → TopKeeps t → TopKeeps (top_step F p t)
+  pub top_keeps : (t : Top FlatBody) → TopKeeps t → TopKeeps (top_step F p t)
   top_keeps (On target xs (Run x acts st)) h = (next_has (instruction_at codes x) x acts st refl h.0, h.1)
   top_keeps (On target xs (Settle o acts st)) h = (settle_has p known opens given o acts st h.0, h.1)
   top_keeps (On target xs (Begin u acts st)) h = (begin_has p known opens u acts st (h.0.0, h.0.2) h.0.1, h.1)
@@ -275,7 +275,7 @@ module _ (p : Program) (known : KnowsLiterals p) where
   iter_keeps zero t h = h
   iter_keeps (suc n) t h = iter_keeps n (top_step F p t) (top_keeps t h)
 
-  first_has : StateHas p (first_state p)
+  pub first_has : StateHas p (first_state p)
   unfolding first_state
   first_has = (omega arith, known.literals, tt, tt, nils_have (length p.literals) p.variables)
 

@@ -1,5 +1,5 @@
 -- Self is of the class that a body is written in: a law for each small step of the flat machine.
-use Rattle.std.proofs.Common.{◌≡◌, ℕ, zero, suc, ◌+◌, ◌<◌, ◌≤◌, max, length, List, [], ◌∷◌, ◌++◌, Option, Some, None, Bool, true, false, drop, lt-ltb, refl, sym, ap, ◌∙◌, subst, arith, nat_lt, nat_le, if◌then◌else◌}
+use Rattle.std.proofs.Common.{◌≡◌, ℕ, ◌+◌, ◌<◌, ◌≤◌, max, length, List, [], ◌∷◌, Option, Some, None, Bool, true, false, drop, lt-ltb, refl, sym, ap, subst, arith, nat_lt, nat_le, if◌then◌else◌}
 use Rattle.object_heap.specs.declared.value.Value.{Value}
 use Rattle.object_heap.specs.declared.value.Value.TheVariants.{Nil, True, False, Integer, Character, Symbol, Class, Meta, Transcript, Object}
 use Rattle.object_heap.specs.declared.value.Closure.{Closure}
@@ -7,9 +7,8 @@ use Rattle.object_heap.specs.Store.{Store, object_at}
 use Rattle.st_code.specs.Program.{Program, Initializer, OfInstance, body_at, class_at}
 use Rattle.st_code.specs.Messages.{Control}
 use Rattle.st_code.specs.Lookup.{level, level_of, walk, class_level, is_plain, fits, is_exception}
-use Rattle.st_collections.specs.Actions.{Action, Gives, Changes, Makes, Writes, Fails, DividesByZero, PassesIntegers, Begins, Activates, Sends, Misses, Enters, Guards, Ensures, Curtails, Iterates, Raises, RaisesNew, Controls, Terminates, Visit, Applies, Compares, Finishes, Lacks, Charges, next_object, with_new}
+use Rattle.st_collections.specs.Actions.{Action, Gives, Changes, Makes, Writes, Fails, DividesByZero, PassesIntegers, Begins, Activates, Sends, Misses, Enters, Guards, Ensures, Curtails, Iterates, Raises, RaisesNew, Controls, Terminates, Visit, Applies, Compares, Finishes, Lacks, Charges, next_object}
 use Rattle.st_collections.specs.Kinds.{is_true}
-use Rattle.st_collections.specs.Loops.{first_visit, next_visit}
 use Rattle.st_rules.specs.State.{State, Entry, Env, Target, Outcome, Answer, Go, Stop, Turn, Mark, FoundTurn, NoTurn, TurnAt, turn_of, with_store, is_live, step_made, stood, used, scope_cells}
 use Rattle.st_rules.specs.Ends.{charged, ended, with_arguments, with_message, Opening, block_opening, method_opening, turn_end, outer_end, SignalVerdict, Ends, Signals, signal_end, Verdict, Leaves, Again, protect_end, Search, asks_nested, Wait, ToResume, ToOuter}
 use Rattle.st_rules.specs.Rules.{Use, Apply, Activate, Enter, SendTo, SuperTo, Perform, Raise, RaiseNew, SignalPoint, Resignaled, SearchIn, TurnBy, Ask, Protect, Finish, VisitBy, RunBody, closure_for, apply_by, handler_by, exception_slots, with_exception, exception_cells}
@@ -18,9 +17,9 @@ use Rattle.st_code.specs.declared.instruction.Instruction.{Instruction}
 use Rattle.st_code.specs.Compiled.{compile_of}
 use Rattle.st_rules.specs.Flat.{FlatBody, flat_number, code_at, operand_pushed, greatest_width}
 use Rattle.st_rules.specs.Turns.{On}
-use Rattle.st_rules.specs.NothingMissing.{HasRoom, ValueHas}
+use Rattle.st_rules.specs.NothingMissing.{own_count, HasRoom, ValueHas}
 use Rattle.st_rules.specs.Flattened.{flat_of}
-use Rattle.st_rules.specs.Objects.{Has, AllHave, ObjectsHave, ClosureHas, ClosuresHave, Grown, VisitHas, ActionHas, UseHas, BodyHas, ActHas, ActsHave, StateHas, MachHas, KnowsLiterals}
+use Rattle.st_rules.specs.Objects.{Has, AllHave, ObjectsHave, ClosuresHave, Grown, VisitHas, ActionHas, UseHas, ActHas, ActsHave, KnowsLiterals}
 use Rattle.st_rules.specs.Selves.{SendsToSelf, OnWalk, IsOf, KnowsClasses, BodyFits, ActFits, ActsFit}
 use Rattle.st_rules.proofs.ValuesHave.{append_has, take_has, nils_have, grown_new, next_new}
 use Rattle.st_rules.proofs.ObjectsMachine.{Here, size, grown_here}
@@ -80,10 +79,10 @@ code_from p x position = drop position (code_at (compile_of p) x.code).instructi
 
 -- a body at its next instruction, and one that waits at the instruction before
 abbrev pub Runs : Program → FlatBody → Type 0
-Runs p x = (flags : List Bool) × Flags flags x.operands x.self × SendsToSelf (code_from p x x.position) flags
+Runs p x = (flags : List Bool) × Flags flags x.operands x.self × SendsToSelf (code_from p x x.position) flags × (own_count p x + length flags ≤ length x.operands)
 
 abbrev pub Waits : Program → FlatBody → Type 0
-Waits p x = (flags : List Bool) × Flags flags x.operands x.self × SendsToSelf (code_from p x (x.position + 1)) (false ∷ flags)
+Waits p x = (flags : List Bool) × Flags flags x.operands x.self × SendsToSelf (code_from p x (x.position + 1)) (false ∷ flags) × (own_count p x + length flags ≤ length x.operands)
 
 -- room for a value that a body is given
 abbrev pub RoomFor : Program → Act FlatBody → Type 0
@@ -99,7 +98,9 @@ pub pushed_is : (p : Program) (v : Value) (ops : List Value) → length ops < gr
 pushed_is p v ops l = ap (λ b. if b then v ∷ ops else ops) (lt-ltb (length ops) (greatest_width (compile_of p)) l)
 
 pub given_runs : (p : Program) (v : Value) (x : FlatBody) → HasRoom p x → Waits p x → Runs p ((flat_of p).given v x)
-given_runs p v x room w = (false ∷ w.0, subst (λ ops. Flags (false ∷ w.0) ops x.self) (sym (pushed_is p v x.operands room)) w.1, w.2)
+given_runs p v x room w =
+    let e = pushed_is p v x.operands room in
+    (false ∷ w.0, subst (λ ops. Flags (false ∷ w.0) ops x.self) (sym e) w.1, w.2, subst (λ ops. own_count p x + length (false ∷ w.0) ≤ length ops) (sym e) (omega (arith, w.3)))
 
 abbrev pub ActWaits : Program → Act FlatBody → Type 0
 ActWaits p (BodyAct x) = Waits p x
@@ -186,9 +187,9 @@ module _ (p : Program) (known : KnowsLiterals p) (knows : KnowsClasses p) where
   abbrev M : List (Act FlatBody) → List Mark
   M acts = marks flat_number acts
 
-  module _ (opens : (x : Opening) (acts : List (Act FlatBody)) (st : State) → Rest p acts st → IsOf p st.store x.self x.class → MachFits p (Run (F.opened_body x st.store) acts (with_store st (F.opened_store x st.store)))) where
-    pub open_fits : (x : Opening) (acts : List (Act FlatBody)) (st : State) → Rest p acts st → IsOf p st.store x.self x.class → MachFits p (open_act F p x acts st)
-    open_fits x acts st r o = stood_fits p (M acts) st _ _ r (λ d n. used_fits p (scope_cells (body_at p x.code)) _ _ _ r (λ c. opens x acts (record st { depth = d; next = n; cells = c }) r o))
+  module _ (opens : (x : Opening) (acts : List (Act FlatBody)) (st : State) → Here p acts st → Has (size st) x.self → Rest p acts st → IsOf p st.store x.self x.class → MachFits p (Run (F.opened_body x st.store) acts (with_store st (F.opened_store x st.store)))) where
+    pub open_fits : (x : Opening) (acts : List (Act FlatBody)) (st : State) → Here p acts st → Has (size st) x.self → Rest p acts st → IsOf p st.store x.self x.class → MachFits p (open_act F p x acts st)
+    open_fits x acts st h g r o = stood_fits p (M acts) st _ _ r (λ d n. used_fits p (scope_cells (body_at p x.code)) _ _ _ r (λ c. opens x acts (record st { depth = d; next = n; cells = c }) h g r o))
 
     raise_fits : (live : Bool) (e : ℕ) (env : Env) (acts : List (Act FlatBody)) (st : State) → Rest p acts st → MachFits p (raise_act F p live e env acts st)
     raise_fits true e env acts st r = (r, tt)
@@ -309,8 +310,8 @@ module _ (p : Program) (known : KnowsLiterals p) (knows : KnowsClasses p) where
 
     pub begin_fits : (u : Use) (acts : List (Act FlatBody)) (st : State) → Here p acts st → UseHas st.store u → Rest p acts st → UseFits p st.store u → MachFits p (begin F p u acts st)
     begin_fits (Apply v args env) acts st h u r f = (r, apply_fits st.store (closure_for p st.store v (length args)) v args env (closure_for_fits p knows st.store r.0 v (length args)))
-    begin_fits (Activate c args env) acts st h u r f = step_fits p st _ _ r (λ n. open_fits (block_opening c args env st.next) acts (record st { steps = n }) r f)
-    begin_fits (Enter code x args env) acts st h u r f = open_fits (method_opening p code x args env st.next) acts st r f
+    begin_fits (Activate c args env) acts st h u r f = step_fits p st _ _ r (λ n. open_fits (block_opening c args env st.next) acts (record st { steps = n }) h u.0.0 r f)
+    begin_fits (Enter code x args env) acts st h u r f = open_fits (method_opening p code x args env st.next) acts st h u.0 r f
     begin_fits (SendTo selector x args env) acts st h u r f = step_fits p st _ _ r (λ n. (r, send_fits p knows st.store r.0 selector x args))
     begin_fits (SuperTo class selector x args env) acts st h u r f = step_fits p st _ _ r (λ n. (r, super_fits p knows st.store r.0 class selector x args f))
     begin_fits (Perform a env) acts st h u r f = perform_fits a env acts st h u.0 r f

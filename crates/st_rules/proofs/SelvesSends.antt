@@ -1,5 +1,5 @@
 -- A method that a lookup finds is written in a class of its receiver.
-use Rattle.std.proofs.Common.{◌≡◌, ℕ, zero, suc, ◌<◌, ◌⊎◌, inl, inr, List, [], ◌∷◌, length, drop, nat_eq, ◌&&◌, eqb-true, pos, slice_get, Option, Some, None, Bool, true, false, refl, sym, ap, ◌∙◌, subst, arith, if◌then◌else◌, true≢false}
+use Rattle.std.proofs.Common.{◌≡◌, ℕ, zero, suc, inl, inr, List, [], ◌∷◌, length, drop, nat_eq, ◌&&◌, eqb-true, slice_get, Option, Some, None, Bool, true, false, refl, sym, ap, ◌∙◌, arith, if◌then◌else◌, true≢false}
 use Rattle.std.specs.Option.{option_and_then, option_map}
 use Rattle.object_heap.specs.declared.value.Value.{Value}
 use Rattle.object_heap.specs.declared.value.Value.TheVariants.{Nil, True, False, Integer, Character, Symbol, Class, Meta, Transcript, Object}
@@ -10,7 +10,7 @@ use Rattle.st_code.specs.Program.{Program, MethodRow, Side, OfInstance, OfClass,
 use Rattle.st_code.specs.BuiltIns.{array_class, row_at}
 use Rattle.st_code.specs.Messages.{Row, Objects, Classes, Booleans, Numbers, Characters, Transcripts, Strings, Sequences, Collections, Blocks, Exceptions, Loops, Slots, BlockMessage}
 use Rattle.st_code.specs.Lookup.{Level, level, level_of, walk, class_level, Found, UserMethod, BuiltIn, is_method, method_at, found_at, found_in, lookup, super_lookup}
-use Rattle.st_collections.specs.Actions.{Action, Gives, Changes, Makes, Writes, Fails, DividesByZero, PassesIntegers, Begins, Activates, Sends, Misses, Enters, Guards, Ensures, Curtails, Iterates, Raises, RaisesNew, Controls, Terminates, first, second}
+use Rattle.st_collections.specs.Actions.{Action, Gives, Changes, Makes, Writes, Fails, DividesByZero, PassesIntegers, Begins, Activates, Sends, Misses, Enters, Guards, Ensures, Curtails, Iterates, Raises, RaisesNew, Controls, Terminates, first}
 use Rattle.st_collections.specs.Kinds.{is_a, slots_of}
 use Rattle.st_rules.specs.Sends.{row_action, send_action, super_action}
 use Rattle.st_rules.specs.ExceptionRows.{closure_of, value_with, block_at, block_action}

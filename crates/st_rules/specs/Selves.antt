@@ -1,7 +1,6 @@
 -- What is claimed of self: in each body it is an instance of the class that the body is written in, or of one under it.
 use Rattle.std.specs.Prelude.{◌≡◌, ℕ, zero, suc, ◌⊎◌, Bool, true, false, List, [], ◌∷◌, drop}
 use Rattle.object_heap.specs.declared.value.Value.{Value}
-use Rattle.object_heap.specs.declared.value.Closure.{Closure}
 use Rattle.object_heap.specs.Store.{Store}
 use Rattle.st_code.specs.declared.instruction.Instruction.{Instruction}
 use Rattle.st_code.specs.declared.instruction.Instruction.TheVariants.{PushConstant, PushSelf, PushVariable, Store as StoreVariable, Pop, Dup, Send, SuperSend, MakeBlock, MethodReturn, HomeReturn, BlockEnd}
@@ -9,7 +8,6 @@ use Rattle.st_code.specs.Compiled.{compile_of}
 use Rattle.st_code.specs.Program.{Program, MethodRow, Initializer, body_at}
 use Rattle.st_code.specs.Lookup.{Level, level, level_of, walk, class_level}
 use Rattle.st_rules.specs.Machine.{Act, BodyAct, Leaving, Run, Settle, Begin, Over, Stuck}
-use Rattle.st_rules.specs.State.{State}
 use Rattle.st_rules.specs.Flat.{FlatBody, code_at}
 use Rattle.st_rules.specs.Turns.{Top, On, Ended, opened_run, top_iter}
 use Rattle.st_rules.specs.Flattened.{flat_of}
@@ -90,14 +88,14 @@ module _ (p : Program) where
   ActsFit s [] = Unit {0}
   ActsFit s (a ∷ acts) = ActFits s a × ActsFit s acts
 
-  abbrev pub SelvesHave : Top FlatBody → Type 0
-  SelvesHave (On target xs (Run x acts st)) = BodyFits st.store x × ActsFit st.store acts
-  SelvesHave (On target xs (Settle o acts st)) = ActsFit st.store acts
-  SelvesHave (On target xs (Begin u acts st)) = ActsFit st.store acts
-  SelvesHave (On target xs (Over o st)) = Unit {0}
-  SelvesHave (On target xs (Stuck st)) = Unit {0}
-  SelvesHave (Ended e st) = Unit {0}
+  abbrev pub SelvesAre : Top FlatBody → Type 0
+  SelvesAre (On target xs (Run x acts st)) = BodyFits st.store x × ActsFit st.store acts
+  SelvesAre (On target xs (Settle o acts st)) = ActsFit st.store acts
+  SelvesAre (On target xs (Begin u acts st)) = ActsFit st.store acts
+  SelvesAre (On target xs (Over o st)) = Unit {0}
+  SelvesAre (On target xs (Stuck st)) = Unit {0}
+  SelvesAre (Ended e st) = Unit {0}
 
 -- in each body that runs or stands, at each small step
 abbrev pub SelvesFit : Type 0
-SelvesFit = (p : Program) → Compilable p → KnowsLiterals p → KnowsClasses p → (n : ℕ) → SelvesHave p (top_iter (flat_of p) p n (opened_run (flat_of p) p))
+SelvesFit = (p : Program) → Compilable p → KnowsLiterals p → KnowsClasses p → (n : ℕ) → SelvesAre p (top_iter (flat_of p) p n (opened_run (flat_of p) p))

@@ -1,6 +1,7 @@
 // On compiled code nothing is missing.
 ghost use Rattle.st_rules.specs.NothingMissing.{ActivationsHave, InstructionsHave, ValuesHave};
 ghost use Rattle.st_rules.specs.Objects.{ObjectsStand, ProgramsKnowLiterals, ProgramsKnowShared, SharedStands};
+ghost use Rattle.st_rules.specs.Selves.{SelvesFit};
 
 /// At each small step of the flat machine's run of a compiled program, what is named and taken is
 /// there, so no default is taken for it: the position names an instruction, whose operands stand
@@ -19,4 +20,5 @@ pub fn on_compiled_code_nothing_is_missing()
     ensures shared_programs { ProgramsKnowShared }
     ensures objects { ObjectsStand }
     ensures object_programs { ProgramsKnowLiterals }
+    ensures selves { SelvesFit }
 {}

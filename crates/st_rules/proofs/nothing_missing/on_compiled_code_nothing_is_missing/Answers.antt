@@ -2,7 +2,7 @@
 use Rattle.st_rules.proofs.nothing_missing.on_compiled_code_nothing_is_missing.Goals as goal
 use Rattle.st_rules.proofs.NothingMissing.{instructions_have, values_have, activations_have}
 use Rattle.st_rules.proofs.SharedStands.{shared_stands}
-use Rattle.st_rules.proofs.SelvesMachine.{grown_rest}
+use Rattle.st_rules.proofs.SelvesRun.{selves_fit}
 use Rattle.st_rules.proofs.KnownProgram.{programs_know_literals, programs_know_shared}
 use Rattle.st_rules.proofs.ObjectsRun.{objects_stand}
 
@@ -26,3 +26,6 @@ returns-clause-shared_programs c = programs_know_shared
 
 pub returns-clause-object_programs : goal.returns-clause-object_programs
 returns-clause-object_programs c = programs_know_literals
+
+pub returns-clause-selves : goal.returns-clause-selves
+returns-clause-selves c = selves_fit
