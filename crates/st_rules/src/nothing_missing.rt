@@ -10,8 +10,10 @@ ghost use Rattle.st_rules.specs.Selves.{SelvesFit};
 /// reaches a body; the code and scope of what is activated; the variables of the program, where the
 /// code names no others; and the object of each number in hand, be it an operand, a variable, a
 /// slot, or kept by what stands, where the program has the literals that it names. Each program that
-/// the units of a file are has these literals, and these variables unless it has none. Not claimed:
-/// slots of self and class instance variables.
+/// the units of a file are has these literals, and these variables unless it has none. Self is an
+/// instance of the class that a body is written in, or of one under it, in each body that runs or
+/// stands, where the program's classes are as `KnowsClasses` says. Not claimed: how many slots self
+/// has, and where its class instance variables are.
 pub fn on_compiled_code_nothing_is_missing()
     ensures instructions { InstructionsHave }
     ensures values { ValuesHave }
