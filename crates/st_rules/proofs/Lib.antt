@@ -66,3 +66,5 @@ pub mod Watched
 pub mod SelvesSends
 pub mod SelvesMachine
 pub mod SelvesRun
+pub mod KnownSupers
+pub mod SuperSends

@@ -20,7 +20,8 @@ use Rattle.st_rules.specs.Turns.{On}
 use Rattle.st_rules.specs.NothingMissing.{own_count, HasRoom, ValueHas}
 use Rattle.st_rules.specs.Flattened.{flat_of}
 use Rattle.st_rules.specs.Objects.{Has, AllHave, ObjectsHave, ClosuresHave, Grown, VisitHas, ActionHas, UseHas, ActHas, ActsHave, KnowsLiterals}
-use Rattle.st_rules.specs.Selves.{SendsToSelf, OnWalk, IsOf, KnowsClasses, BodyFits, ActFits, ActsFit}
+use Rattle.st_rules.specs.Selves.{OnWalk, IsOf, KnowsClasses, BodyFits, ActFits, ActsFit}
+use Rattle.st_rules.proofs.SuperSends.{SendsToSelf}
 use Rattle.st_rules.proofs.ValuesHave.{append_has, take_has, nils_have, grown_new, next_new}
 use Rattle.st_rules.proofs.ObjectsMachine.{Here, size, grown_here}
 use Rattle.st_rules.proofs.SelvesSends.{ClosureFits, ClosuresFit, ClosureOrNone, ActionFits, closure_for_fits, send_fits, super_fits}

@@ -23,7 +23,9 @@ use Rattle.st_rules.specs.Compilable.{Compilable}
 use Rattle.st_rules.specs.Flattened.{flat_of}
 use Rattle.st_rules.specs.NothingMissing.{Stands, VariableStands, HasRoom, HasOperands, own_count, Ready, InstructionHas, ValueHas}
 use Rattle.st_rules.specs.Objects.{Has, AllHave, StateHas, SelvesHave, KnowsLiterals}
-use Rattle.st_rules.specs.Selves.{flag_at, rest_of, behind_so_many, SendsToSelf, IsOf, BodyFits, SelvesSit, KnowsClasses, SelvesAre, SelvesFit}
+use Rattle.st_rules.specs.Selves.{IsOf, BodyFits, SelvesSit, KnowsClasses, SelvesAre, SelvesFit}
+use Rattle.st_rules.proofs.KnownSupers.{supers_known}
+use Rattle.st_rules.proofs.SuperSends.{flag_at, rest_of, behind_so_many, SendsToSelf}
 use Rattle.st_rules.proofs.ValuesHave.{has_later, grown_slot, set_size}
 use Rattle.st_rules.proofs.Variables.{own_size, first_size}
 use Rattle.st_rules.proofs.ObjectsMachine.{Here, size}
@@ -278,7 +280,7 @@ module _ (p : Program) (known : KnowsLiterals p) (knows : KnowsClasses p) where
       let t : Store = record { objects = st.store.objects; closures = st.store.closures; scopes = if b then st.store.scopes ++ sc ∷ [] else st.store.scopes } in
       let size_is : length (reverse (own_variables captured vs)) ≡ count_uncaptured captured = length-reverse (own_variables captured vs) ∙ own_size captured vs (first_size captured x.arguments) in
       subst (λ s. MachFits p (Run (F.opened_body x st.store) acts (with_store st s))) (sym (same_objects b st.store sc))
-      (rest_same acts st t refl refl h r, (is_of_later p st.store t (λ n l. refl) x.self x.class g o, ([], tt, knows.supers x.code, omega (arith, size_is))))
+      (rest_same acts st t refl refl h r, (is_of_later p st.store t (λ n l. refl) x.self x.class g o, ([], tt, supers_known p x.code, omega (arith, size_is))))
 
   -- ---- a run
 

@@ -1,14 +1,11 @@
 -- What is claimed of self: in each body it is an instance of the class that the body is written in, or of one under it.
-use Rattle.std.specs.Prelude.{◌≡◌, ℕ, zero, suc, ◌⊎◌, Bool, true, false, List, [], ◌∷◌, drop}
+use Rattle.std.specs.Prelude.{◌≡◌, ℕ, ◌⊎◌, List, [], ◌∷◌, drop}
 use Rattle.object_heap.specs.declared.value.Value.{Value}
 use Rattle.object_heap.specs.Store.{Store}
-use Rattle.st_code.specs.declared.instruction.Instruction.{Instruction}
-use Rattle.st_code.specs.declared.instruction.Instruction.TheVariants.{PushConstant, PushSelf, PushVariable, Store as StoreVariable, Pop, Dup, Send, SuperSend, MakeBlock, MethodReturn, HomeReturn, BlockEnd}
-use Rattle.st_code.specs.Compiled.{compile_of}
 use Rattle.st_code.specs.Program.{Program, MethodRow, Initializer, body_at}
 use Rattle.st_code.specs.Lookup.{Level, level, level_of, walk, class_level}
 use Rattle.st_rules.specs.Machine.{Act, BodyAct, Leaving, Run, Settle, Begin, Over, Stuck}
-use Rattle.st_rules.specs.Flat.{FlatBody, code_at}
+use Rattle.st_rules.specs.Flat.{FlatBody}
 use Rattle.st_rules.specs.Turns.{Top, On, Ended, opened_run, top_iter}
 use Rattle.st_rules.specs.Flattened.{flat_of}
 use Rattle.st_rules.specs.Compilable.{Compilable}
@@ -33,43 +30,10 @@ abbrev pub SelvesSit : Program → List Initializer → Type 0
 SelvesSit p [] = Unit {0}
 SelvesSit p (x ∷ xs) = ((s : Store) → IsOf p s x.self (body_at p x.code).class) × SelvesSit p xs
 
--- ---- the receiver of `super`
-
--- which of the operands that a code's instructions have pushed are self, from the last on
-abbrev pub flag_at : ℕ → List Bool → Bool
-flag_at n [] = false
-flag_at zero (b ∷ flags) = b
-flag_at (suc n) (b ∷ flags) = flag_at n flags
-
-abbrev pub rest_of : List Bool → List Bool
-rest_of [] = []
-rest_of (b ∷ flags) = flags
-
-abbrev pub behind_so_many : ℕ → List Bool → List Bool
-behind_so_many zero flags = flags
-behind_so_many (suc n) flags = behind_so_many n (rest_of flags)
-
--- each send to super has self as its receiver
-abbrev pub SendsToSelf : List Instruction → List Bool → Type 0
-SendsToSelf [] flags = Unit {0}
-SendsToSelf (PushConstant c ∷ is) flags = SendsToSelf is (false ∷ flags)
-SendsToSelf (PushSelf ∷ is) flags = SendsToSelf is (true ∷ flags)
-SendsToSelf (PushVariable v ∷ is) flags = SendsToSelf is (false ∷ flags)
-SendsToSelf (StoreVariable v ∷ is) flags = SendsToSelf is flags
-SendsToSelf (Pop ∷ is) flags = SendsToSelf is (rest_of flags)
-SendsToSelf (Dup ∷ is) flags = SendsToSelf is (flag_at 0 flags ∷ flags)
-SendsToSelf (Send selector count ∷ is) flags = SendsToSelf is (false ∷ behind_so_many (suc count) flags)
-SendsToSelf (SuperSend selector count ∷ is) flags = (flag_at count flags ≡ true) × SendsToSelf is (false ∷ behind_so_many (suc count) flags)
-SendsToSelf (MakeBlock code ∷ is) flags = SendsToSelf is (false ∷ flags)
-SendsToSelf (MethodReturn ∷ is) flags = SendsToSelf is (false ∷ rest_of flags)
-SendsToSelf (HomeReturn ∷ is) flags = SendsToSelf is (false ∷ rest_of flags)
-SendsToSelf (BlockEnd ∷ is) flags = SendsToSelf is (false ∷ rest_of flags)
-
--- each method is at the level of its class, each initializer's self is of the class that it is written in, each send to super is one to self, and what it looks up behind a level of a walk is on that walk
+-- each method is at the level of its class, each initializer's self is of the class that it is written in, and what `super` looks up behind a level of a walk is on that walk
 pub record KnowsClasses (p : Program) : Type 0 where
   pub methods : MethodsSit p p.methods
   pub selves : SelvesSit p p.initializers
-  pub supers : (code : ℕ) → SendsToSelf (code_at (compile_of p) code).instructions []
   pub behind : (from l m : Level) → OnWalk (walk p from) l → OnWalk (drop 1 (walk p l)) m → OnWalk (walk p from) m
 
 -- ---- at a moment
