@@ -68,3 +68,4 @@ pub mod SelvesMachine
 pub mod SelvesRun
 pub mod KnownSupers
 pub mod SuperSends
+pub mod KnownWalks

@@ -2,7 +2,7 @@
 use Rattle.st_rules.proofs.nothing_missing.on_compiled_code_nothing_is_missing.Goals as goal
 use Rattle.st_rules.proofs.NothingMissing.{instructions_have, values_have, activations_have}
 use Rattle.st_rules.proofs.SharedStands.{shared_stands}
-use Rattle.st_rules.proofs.KnownSupers.{supers_known}
+use Rattle.st_rules.proofs.KnownWalks.{behind_known}
 use Rattle.st_rules.proofs.SelvesRun.{selves_fit}
 use Rattle.st_rules.proofs.KnownProgram.{programs_know_literals, programs_know_shared}
 use Rattle.st_rules.proofs.ObjectsRun.{objects_stand}
