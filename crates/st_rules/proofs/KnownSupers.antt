@@ -1,11 +1,11 @@
 -- Each send to super in compiled code has self as its receiver.
-use Rattle.std.proofs.Common.{◌≡◌, ℕ, zero, suc, ◌+◌, List, [], ◌∷◌, ◌++◌, map, length, get_or, append_assoc, Bool, true, false, refl, sym, ap, ◌∙◌, subst, arith}
+use Rattle.std.proofs.Common.{◌≡◌, ℕ, zero, suc, List, [], ◌∷◌, ◌++◌, map, length, get_or, append_assoc, Bool, true, false, refl, sym, subst, arith}
 use Rattle.std.proofs.lemmas.List.{length-append}
 use Rattle.st_code.specs.Program.{Program, Tree, Constant, Self, Variable, Assign, Block, Send, SuperSend, Cascade, SuperCascade, Trees, no_trees, more_trees, Messages, no_messages, more_messages, Statement, Plain, Return, Kind, InMethod, InBlock, InInitializer, Body}
-use Rattle.st_code.specs.Code.{Instr, PushConstant, PushSelf, Pop, Dup, Store, SendMessage, SendSuper, return_of, count_of, dup_for, pop_for, code, code_args, code_messages, end_code, empty_code, code_on, code_body}
-use Rattle.st_code.specs.Compiled.{Compiled, instruction_of, compiled_body, compiled_from, compile_of}
+use Rattle.st_code.specs.Code.{Instr, Pop, Store, SendMessage, SendSuper, return_of, count_of, code, code_args, code_messages, end_code, empty_code, code_on, code_body}
+use Rattle.st_code.specs.Compiled.{instruction_of, compiled_body, compiled_from, compile_of}
 use Rattle.st_rules.specs.Flat.{no_code, code_at}
-use Rattle.st_rules.proofs.SuperSends.{flag_at, rest_of, behind_so_many, SendsToSelf}
+use Rattle.st_rules.proofs.SuperSends.{flag_at, behind_so_many, SendsToSelf}
 
 -- ---- operands that arguments have pushed
 

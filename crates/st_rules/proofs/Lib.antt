@@ -69,3 +69,4 @@ pub mod SelvesRun
 pub mod KnownSupers
 pub mod SuperSends
 pub mod KnownWalks
+pub mod KnownClasses

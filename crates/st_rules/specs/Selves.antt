@@ -2,6 +2,9 @@
 use Rattle.std.specs.Prelude.{◌≡◌, ℕ, ◌⊎◌, List, [], ◌∷◌, drop}
 use Rattle.object_heap.specs.declared.value.Value.{Value}
 use Rattle.object_heap.specs.Store.{Store}
+use Rattle.st_code.specs.Texts.{Text}
+use Rattle.st_code.specs.Named.{NamedUnit}
+use Rattle.st_code.specs.Definitions.{RunLimits, program_of}
 use Rattle.st_code.specs.Program.{Program, MethodRow, Initializer, body_at}
 use Rattle.st_code.specs.Lookup.{Level, level, level_of, walk, class_level}
 use Rattle.st_rules.specs.Machine.{Act, BodyAct, Leaving, Run, Settle, Begin, Over, Stuck}
@@ -63,3 +66,7 @@ module _ (p : Program) where
 -- in each body that runs or stands, at each small step
 abbrev pub SelvesFit : Type 0
 SelvesFit = (p : Program) → Compilable p → KnowsLiterals p → KnowsClasses p → (n : ℕ) → SelvesAre p (top_iter (flat_of p) p n (opened_run (flat_of p) p))
+
+-- the programs that the units of a file are have their classes so, whatever the units are
+abbrev pub ProgramsKnowClasses : Type 0
+ProgramsKnowClasses = (names : List Text) (units : List NamedUnit) (limits : RunLimits) → KnowsClasses (program_of names units limits)

@@ -2,7 +2,7 @@
 use Rattle.st_rules.proofs.nothing_missing.on_compiled_code_nothing_is_missing.Goals as goal
 use Rattle.st_rules.proofs.NothingMissing.{instructions_have, values_have, activations_have}
 use Rattle.st_rules.proofs.SharedStands.{shared_stands}
-use Rattle.st_rules.proofs.KnownWalks.{behind_known}
+use Rattle.st_rules.proofs.KnownClasses.{programs_know_classes}
 use Rattle.st_rules.proofs.SelvesRun.{selves_fit}
 use Rattle.st_rules.proofs.KnownProgram.{programs_know_literals, programs_know_shared}
 use Rattle.st_rules.proofs.ObjectsRun.{objects_stand}
@@ -30,3 +30,6 @@ returns-clause-object_programs c = programs_know_literals
 
 pub returns-clause-selves : goal.returns-clause-selves
 returns-clause-selves c = selves_fit
+
+pub returns-clause-self_programs : goal.returns-clause-self_programs
+returns-clause-self_programs c = programs_know_classes
