@@ -29,9 +29,9 @@ use Rattle.st_rules.proofs.FlatVariables.{kind_at, variable_found, Reached, IsOw
 use Rattle.st_rules.proofs.FlatCode.{taken_off, most_least, code_is}
 
 -- arguments that are there, before more operands
-record TakesBefore (count : ℕ) (ops acc args below more : List Value) (r : Value) : Type 0 where
-  taken_same : operands_taken count (ops ++ more) acc ≡ record { args = args; below = (r ∷ below) ++ more }
-  sized : length ops ≡ count + suc (length below)
+pub record TakesBefore (count : ℕ) (ops acc args below more : List Value) (r : Value) : Type 0 where
+  pub taken_same : operands_taken count (ops ++ more) acc ≡ record { args = args; below = (r ∷ below) ++ more }
+  pub sized : length ops ≡ count + suc (length below)
 
 takes_args : (a b c d : List Value) → Takes a b ≡ Takes c d → a ≡ c
 takes_args a b c d e = cc
@@ -39,7 +39,7 @@ takes_args a b c d e = cc
 takes_below : (a b c d : List Value) → Takes a b ≡ Takes c d → b ≡ d
 takes_below a b c d e = cc
 
-taken_before : (count : ℕ) (ops acc args below more : List Value) (r : Value) → taken count ops acc ≡ Takes args (r ∷ below) → TakesBefore count ops acc args below more r
+pub taken_before : (count : ℕ) (ops acc args below more : List Value) (r : Value) → taken count ops acc ≡ Takes args (r ∷ below) → TakesBefore count ops acc args below more r
 taken_before zero ops acc args below more r e =
     let a = takes_args acc ops args (r ∷ below) e in
     let b = takes_below acc ops args (r ∷ below) e in

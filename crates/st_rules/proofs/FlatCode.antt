@@ -72,7 +72,7 @@ abbrev compiled_list : Program → ℕ → List Body → List Compiled
 compiled_list p code [] = []
 compiled_list p code (body ∷ bodies) = compiled_body p code body ∷ compiled_list p (suc code) bodies
 
-list_size : (p : Program) (k : ℕ) (bodies : List Body) → length (compiled_list p k bodies) ≡ length bodies
+pub list_size : (p : Program) (k : ℕ) (bodies : List Body) → length (compiled_list p k bodies) ≡ length bodies
 list_size p k [] = refl
 list_size p k (body ∷ bodies) = ap suc (list_size p (suc k) bodies)
 

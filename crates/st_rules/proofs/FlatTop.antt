@@ -26,7 +26,7 @@ module _ (p : Program) (ok : Compilable p) where
   S = scoped p
 
   -- the flat run is where the scoped one is
-  abbrev TopFollows : Top FlatBody → Top ScopedBody → Type 0
+  abbrev pub TopFollows : Top FlatBody → Top ScopedBody → Type 0
   TopFollows t (On target xs m) = (m' : Mach FlatBody) × (t ≡ On target xs m') × Goes p m' m × AllInitializers p xs
   TopFollows t (Ended e st) = (e ≡ Stranded → ⊥) → (g : Places) × (t ≡ Ended e (flat_state g st))
 
@@ -61,7 +61,7 @@ module _ (p : Program) (ok : Compilable p) where
   on_law target xs m' (Over (Stop l) st) h all = subst (λ y. TopFollows (top_step F p (On target xs y)) (Ended (end_of (Stop l)) st)) (sym h.1.0) (λ other. (h.0, refl))
   on_law target xs m' (Stuck st) h all = λ other. absurd (other refl)
 
-  top_law : (t' : Top FlatBody) (t : Top ScopedBody) → TopFollows t' t → TopFollows (top_step F p t') (top_step S p t)
+  pub top_law : (t' : Top FlatBody) (t : Top ScopedBody) → TopFollows t' t → TopFollows (top_step F p t') (top_step S p t)
   top_law t' (On target xs m) h = subst (λ y. TopFollows (top_step F p y) (top_step S p (On target xs m))) (sym h.1) (on_law target xs h.0 m h.2 h.3)
   top_law t' (Ended e st) h = λ other. let x = h other in (x.0, ap (top_step F p) x.1)
 
@@ -144,7 +144,7 @@ module _ (p : Program) (ok : Compilable p) where
         closures = tt;
       }
 
-  opened_law : TopFollows (opened_run F p) (opened_run S p)
+  pub opened_law : TopFollows (opened_run F p) (opened_run S p)
   unfolding first_state
   opened_law = open_law first_places p.initializers (first_state p) first_holds ok.initializers
 

@@ -1,14 +1,14 @@
 -- No run is stuck: with nothing standing, an outcome that is aimed is a value, a limit, or the end of the program.
 use Rattle.std.proofs.Common.{◌≡◌, [], subst, arith}
-use Rattle.st_code.specs.Program.{Program}
 use Rattle.st_rules.specs.State.{Home, Protected, Retry, RetryWith, Resume, Resignal, Terminate, Outcome, Answer, Go, Stop}
 use Rattle.st_rules.specs.Ends.{Yields}
 use Rattle.st_rules.specs.Rules.{at_index}
 use Rattle.st_rules.specs.Runs.{Stuck, first_state, end_of}
 use Rattle.st_rules.specs.NeverStuck.{RulesNeverStuck, MachineNeverStuck}
-use Rattle.st_rules.proofs.Targets.{AimedAt, Ok}
+use Rattle.st_rules.proofs.Targets.{AimedAt}
 use Rattle.st_rules.proofs.AimedResults.{Aimed}
-use Rattle.st_rules.proofs.Aims.{aims_at, run_aims}
+use Rattle.st_rules.specs.Watched.{watched_index}
+use Rattle.st_rules.proofs.Watched.{agree_at, first_ok, run_same}
 use Rattle.st_rules.proofs.SomeRun.{followed_by_the_rules}
 
 not_stuck : (o : Outcome) → AimedAt o [] → end_of o ≡ Stuck → ⊥
@@ -22,13 +22,9 @@ not_stuck (Go (Resume n) v) a e = a
 not_stuck (Go (Resignal n f) v) a e = a
 not_stuck (Go Terminate v) a e = grind (arith, e)
 
-first_ok : (p : Program) → Ok [] (first_state p).next (first_state p).store.closures
-unfolding first_state
-first_ok p = record { sound = tt; under = tt; homes = tt }
-
 pub rules_never_stuck : RulesNeverStuck
 rules_never_stuck p st r =
-    let a = run_aims p (at_index p r.index) (aims_at p r.index) p.initializers (first_state p) (first_ok p) in
+    let a = (run_same p (at_index p r.index) (watched_index p r.index) (agree_at p r.index) p.initializers (first_state p) (first_ok p)).1 in
     let b : Aimed 0 [] (Yields r.outcome st) = subst (λ x. Aimed 0 [] x) r.run a in
     not_stuck r.outcome b.0 r.ends
 

@@ -77,14 +77,14 @@ pub record Grows (before after : List BodyRow) : Type 0 where
 grows_none : (ys : List BodyRow) → Grows ys ys
 grows_none ys = record { extra = []; is = sym (append-nil ys) }
 
-grows_on : (xs ys zs : List BodyRow) → Grows xs ys → Grows ys zs → Grows xs zs
+pub grows_on : (xs ys zs : List BodyRow) → Grows xs ys → Grows ys zs → Grows xs zs
 grows_on xs ys zs a b = record { extra = a.extra ++ b.extra; is = b.is ∙ ap (λ us. us ++ b.extra) a.is ∙ append_assoc xs a.extra b.extra }
 
 initialized_grows : (x : Names) (o : Option ℕ) (target : Text) (b : NamedBody) (d : Defined) → Grows d.bodies (initialized x o target b d).bodies
 initialized_grows x (Some class) target b d = record { extra = _; is = refl }
 initialized_grows x None target b d = record { extra = _; is = refl }
 
-unit_grows : (x : Names) (u : NamedUnit) (d : Defined) → Grows d.bodies (defined_unit x u d).bodies
+pub unit_grows : (x : Names) (u : NamedUnit) (d : Defined) → Grows d.bodies (defined_unit x u d).bodies
 unit_grows x (InitializerUnit target b) d = initialized_grows x (class_in 0 x.classes target) target b d
 unit_grows x (PoolInitializerUnit pool name b) d = record { extra = _; is = refl }
 unit_grows x (ProgramUnit b) d = record { extra = _; is = refl }
@@ -94,7 +94,7 @@ unit_grows x (ClassUnit c) d = grows_none d.bodies
 unit_grows x (GlobalUnit name) d = grows_none d.bodies
 unit_grows x (PoolVariableUnit pool name) d = grows_none d.bodies
 
-units_grow : (x : Names) (units : List NamedUnit) (d : Defined) → Grows d.bodies (defined_units x units d).bodies
+pub units_grow : (x : Names) (units : List NamedUnit) (d : Defined) → Grows d.bodies (defined_units x units d).bodies
 units_grow x [] d = grows_none d.bodies
 units_grow x (u ∷ units) d = grows_on d.bodies (defined_unit x u d).bodies _ (unit_grows x u d) (units_grow x units (defined_unit x u d))
 

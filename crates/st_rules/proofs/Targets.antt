@@ -1,41 +1,10 @@
 -- Where unwindings go: what of all that stands takes each target, and what holds of turns, environments and homes.
-use Rattle.std.proofs.Common.{◌≡◌, ℕ, ◌+◌, ◌<◌, ◌≤◌, ◌⊎◌, inl, inr, List, [], ◌∷◌, ◌++◌, Option, Some, None, Bool, true, false, refl, sym, subst, arith, eq-eqb, eqb-true, true≢false, nat_eq, if◌then◌else◌}
+use Rattle.std.proofs.Common.{◌≡◌, ℕ, ◌+◌, ◌<◌, ◌≤◌, inl, inr, List, [], ◌∷◌, ◌++◌, Option, Some, None, Bool, true, false, refl, sym, subst, arith, eq-eqb, eqb-true, true≢false, nat_eq, if◌then◌else◌}
 use Rattle.object_heap.specs.declared.value.Value.{Value}
 use Rattle.object_heap.specs.declared.value.Closure.{Closure}
 use Rattle.st_rules.specs.State.{Entry, Env, Target, Home, Protected, Retry, RetryWith, Resume, Resignal, Terminate, Outcome, Answer, Go, Stop, Turn, Mark, BodyMark, ProtectMark, ActionMark, LoopMark, WaitMark, OuterMark, SignalMark, TurnMark, number_of_mark, Frame, stands, FoundTurn, NoTurn, TurnAt, turn_of}
+use Rattle.st_rules.specs.Unwindings.{In, IsBody, IsProtect, IsPoint, IsSource, Stands}
 use Rattle.st_rules.specs.Ends.{body_end, outer_end, SignalVerdict, Ends, Signals, signal_end, Verdict, Leaves, Again, protect_end}
-
-abbrev pub In : (Mark → Type 0) → List Mark → Type 0
-In P [] = ⊥
-In P (m ∷ s) = P m ⊎ In P s
-
-abbrev pub IsBody : ℕ → Mark → Type 0
-IsBody n (BodyMark m) = n ≡ m
-IsBody n _ = ⊥
-
-abbrev pub IsProtect : ℕ → Mark → Type 0
-IsProtect n (ProtectMark m) = n ≡ m
-IsProtect n _ = ⊥
-
--- what takes a resumption, and a signal
-abbrev pub IsPoint : ℕ → Mark → Type 0
-IsPoint n (SignalMark m e) = n ≡ m
-IsPoint n (OuterMark m) = n ≡ m
-IsPoint n _ = ⊥
-
-abbrev pub IsSource : ℕ → Mark → Type 0
-IsSource n (SignalMark m e) = n ≡ m
-IsSource n _ = ⊥
-
--- the target stands
-abbrev pub Stands : Target → List Mark → Type 0
-Stands (Home n) s = In (IsBody n) s
-Stands (Protected n) s = In (IsProtect n) s
-Stands (Retry n) s = In (IsProtect n) s
-Stands (RetryWith n) s = In (IsProtect n) s
-Stands (Resume n) s = In (IsPoint n) s
-Stands (Resignal n f) s = In (IsSource n) s
-Stands Terminate s = Unit {0}
 
 abbrev pub AimedAt : Outcome → List Mark → Type 0
 AimedAt (Answer v) s = Unit {0}

@@ -14,7 +14,7 @@ captured_place (suc n) [] = 0
 captured_place (suc n) (true ∷ captured) = suc (captured_place n captured)
 captured_place (suc n) (false ∷ captured) = captured_place n captured
 
-abbrev own_place : ℕ → List Bool → ℕ
+abbrev pub own_place : ℕ → List Bool → ℕ
 own_place zero captured = 0
 own_place (suc n) [] = suc n
 own_place (suc n) (true ∷ captured) = own_place n captured
@@ -26,7 +26,7 @@ captured_place_least (suc n) [] = omega arith
 captured_place_least (suc n) (true ∷ c) = let h = captured_place_least n c in omega arith
 captured_place_least (suc n) (false ∷ c) = let h = captured_place_least n c in omega arith
 
-own_place_is : (n : ℕ) (c : List Bool) → own_place n c ≡ n - captured_place n c
+pub own_place_is : (n : ℕ) (c : List Bool) → own_place n c ≡ n - captured_place n c
 own_place_is zero c = omega arith
 own_place_is (suc n) [] = omega arith
 own_place_is (suc n) (true ∷ c) = let h = own_place_is n c in let l = captured_place_least n c in omega arith
@@ -72,7 +72,7 @@ some_captured (false ∷ c) (suc n) e = some_captured c n e
 
 -- ---- own variables
 
-own_read : (c : List Bool) (vs : List Value) (n : ℕ) → get_or c n false ≡ false → n < length c → length vs ≡ length c → (own_place n c < length (own_variables c vs)) × (get_or (own_variables c vs) (own_place n c) Nil ≡ get_or vs n Nil)
+pub own_read : (c : List Bool) (vs : List Value) (n : ℕ) → get_or c n false ≡ false → n < length c → length vs ≡ length c → (own_place n c < length (own_variables c vs)) × (get_or (own_variables c vs) (own_place n c) Nil ≡ get_or vs n Nil)
 unfolding own_variables
 own_read [] vs n e l s = let none : ⊥ = omega (arith, l) in absurd none
 own_read (b ∷ c) [] n e l s = let none : ⊥ = omega (arith, s) in absurd none
@@ -100,6 +100,15 @@ captured_unchanged (true ∷ c) (u ∷ vs) (suc n) v e = ap (λ us. u ∷ us) (c
 captured_unchanged (false ∷ c) (u ∷ vs) (suc n) v e = captured_unchanged c vs n v e
 
 -- ---- sizes
+
+pub captured_there : (c : List Bool) (vs : List Value) (n : ℕ) → get_or c n false ≡ true → length vs ≡ length c → captured_place n c < length (captured_variables c vs)
+unfolding captured_variables
+captured_there [] vs n e s = other_way e
+captured_there (b ∷ c) [] n e s = let none : ⊥ = omega (arith, s) in absurd none
+captured_there (true ∷ c) (v ∷ vs) zero e s = omega arith
+captured_there (false ∷ c) (v ∷ vs) zero e s = other_way e
+captured_there (true ∷ c) (v ∷ vs) (suc n) e s = let h = captured_there c vs n e (omega (arith, s)) in omega (arith, h)
+captured_there (false ∷ c) (v ∷ vs) (suc n) e s = captured_there c vs n e (omega (arith, s))
 
 pub own_size : (c : List Bool) (vs : List Value) → length vs ≡ length c → length (own_variables c vs) ≡ count_uncaptured c
 unfolding own_variables

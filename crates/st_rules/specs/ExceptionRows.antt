@@ -22,10 +22,10 @@ closure_of s v = None
 abbrev pub parameters_of : Program → Closure → ℕ
 parameters_of p c = (body_at p c.code).parameters
 
-abbrev value_with : Program → Closure → List Value → Action
+abbrev pub value_with : Program → Closure → List Value → Action
 value_with p c args = if nat_eq (parameters_of p c) (length args) then Activates c args else Fails WrongNumberOfArguments
 
-abbrev block_at : Program → Store → BlockMessage → Value → Closure → List Value → Action
+abbrev pub block_at : Program → Store → BlockMessage → Value → Closure → List Value → Action
 block_at p s BlockMessage.Value r c args = value_with p c args
 block_at p s BlockMessage.ValueWithArguments r c args = if is_a s array_class (first args) then value_with p c (slots_of s (first args)) else Fails CollectionExpected
 block_at p s BlockMessage.NumArgs r c args = Gives (Integer (pos (parameters_of p c)))
@@ -39,31 +39,31 @@ block_action p s m r args = elim (closure_of s r) [ Some c ↦ block_at p s m r 
 -- ---- exceptions
 
 -- the classes of a plain selector
-abbrev selectors_of : Store → Value → List Value
+abbrev pub selectors_of : Store → Value → List Value
 selectors_of s (Object number) = (object_at number s).slots
 selectors_of s v = v ∷ []
 
-abbrev join_selectors : Program → Store → Value → Value → Action
+abbrev pub join_selectors : Program → Store → Value → Value → Action
 join_selectors p s r v =
     if is_plain p s r && is_plain p s v then makes_slots exception_set_class (selectors_of s r ++ selectors_of s v) s else Fails ExceptionSelectorExpected
 
-abbrev handles : Program → Store → Value → Value → Action
+abbrev pub handles : Program → Store → Value → Value → Action
 handles p s r (Object number) = if is_exception p s (Object number) then Gives (boolean (fits p s r (object_at number s).class)) else Fails ExceptionExpected
 handles p s r v = Fails ExceptionExpected
 
-abbrev new_exception : Program → Store → Value → Action
+abbrev pub new_exception : Program → Store → Value → Action
 new_exception p s (Class class) = makes_blank class (class_at p class).slots 0 s
 new_exception p s r = Gives Nil
 
-abbrev signal_new : Value → List Value → Action
+abbrev pub signal_new : Value → List Value → Action
 signal_new (Class class) args = RaisesNew class args
 signal_new r args = Gives Nil
 
-abbrev kept_or_text : Program → Store → ℕ → Value → Action
+abbrev pub kept_or_text : Program → Store → ℕ → Value → Action
 kept_or_text p s number Nil = makes_string (exception_text p s number) s
 kept_or_text p s number v = Gives v
 
-abbrev exception_at : Program → Store → ExceptionMessage → ℕ → List Value → Action
+abbrev pub exception_at : Program → Store → ExceptionMessage → ℕ → List Value → Action
 exception_at p s ExceptionMessage.Signal n args = Raises s n
 exception_at p s ExceptionMessage.SignalText n args = Raises (with_slot n 0 (first args) s) n
 exception_at p s ExceptionMessage.MessageText n args = kept_or_text p s n (slot_of s (Object n) 0)
@@ -76,7 +76,7 @@ exception_at p s ExceptionMessage.AnswersNil n args = Gives Nil
 exception_at p s ExceptionMessage.Warns n args = Writes (codes "Warning: " ++ exception_text p s n ++ 10 ∷ []) Nil
 exception_at p s m n args = Gives Nil
 
-abbrev to_exception : Program → Store → ExceptionMessage → Value → List Value → Action
+abbrev pub to_exception : Program → Store → ExceptionMessage → Value → List Value → Action
 to_exception p s m (Object n) args = exception_at p s m n args
 to_exception p s m r args = Gives Nil
 

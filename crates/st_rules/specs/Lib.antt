@@ -19,3 +19,11 @@ pub mod Flat
 pub mod Compilable
 pub mod Flattened
 pub mod SoFar
+pub mod Unwindings
+pub mod TurnsEnd
+pub mod Instructions
+pub mod SameRun
+pub mod NothingMissing
+pub mod Objects
+pub mod Watched
+pub mod Selves

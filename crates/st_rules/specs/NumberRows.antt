@@ -58,14 +58,14 @@ abbrev equal_to : Ratio → Option Ratio → Bool
 equal_to a None = false
 equal_to a (Some b) = ratio_at_most a b && ratio_at_most b a
 
-abbrev least_multiple : ℤ → ℤ → ℤ
+abbrev pub least_multiple : ℤ → ℤ → ℤ
 least_multiple a b = if nat_eq (nat_abs a) 0 then pos 0 else (if nat_eq (nat_abs b) 0 then pos 0 else pos (nat_abs a * nat_abs b / gcd (nat_abs a) (nat_abs b)))
 
-abbrev radix_text : ℕ → ℤ → List ℕ
+abbrev pub radix_text : ℕ → ℤ → List ℕ
 radix_text radix (pos n) = digits_onto 128 radix true n []
 radix_text radix (negsuc n) = 45 ∷ digits_onto 128 radix true (n + 1) []
 
-abbrev in_radix : Store → ℤ → ℤ → Action
+abbrev pub in_radix : Store → ℤ → ℤ → Action
 in_radix s r (pos radix) = if nat_le 2 radix && nat_le radix 36 then makes_string (radix_text radix r) s else Fails BadRadix
 in_radix s r (negsuc radix) = Fails BadRadix
 
@@ -75,7 +75,7 @@ interval s start stop by =
     if in_range (pos (interval_size start stop by)) then makes_slots interval_class (Integer start ∷ Integer stop ∷ Integer by ∷ []) s else PassesIntegers
 
 -- the messages, by the receiver as a number
-abbrev number_at : Program → Store → NumberMessage → Value → Ratio → List Value → Action
+abbrev pub number_at : Program → Store → NumberMessage → Value → Ratio → List Value → Action
 number_at p s NumberMessage.Add r a args = with_number s (first args) (λ b. gives_sum s (sum_of a b))
 number_at p s NumberMessage.Subtract r a args = with_number s (first args) (λ b. gives_sum s (sum_of a (negative_of b)))
 number_at p s NumberMessage.Multiply r a args = with_number s (first args) (λ b. gives_ratio s (product_of a b))
@@ -113,7 +113,7 @@ number_at p s NumberMessage.To r a args = with_integer (first args) (λ n. inter
 number_at p s NumberMessage.ToBy r a args = with_integer (first args) (λ n. with_integer (second args) (λ by. if nat_eq (nat_abs by) 0 then Fails StepIsZero else interval s a.over n by))
 number_at p s NumberMessage.FromNumerator r a args = with_integer (first args) (λ n. with_integer (second args) (λ d. divides s (Integer n) (whole n) (whole d)))
 
-abbrev or_zero : Option Ratio → Ratio
+abbrev pub or_zero : Option Ratio → Ratio
 or_zero (Some a) = a
 or_zero None = whole (pos 0)
 
