@@ -1,0 +1,6 @@
+pub mod Replies
+pub mod Rows
+pub mod Spellings
+pub mod Levels
+pub mod Selectors
+pub mod Pieces

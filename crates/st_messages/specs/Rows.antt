@@ -1,0 +1,177 @@
+-- The rows of the table of built-in messages that these rows are.
+use Rattle.std.specs.Prelude.{ℕ}
+use Rattle.st_code.specs.Messages.{ObjectMessage, ClassMessage, BooleanMessage, NumberMessage, TranscriptMessage, BlockMessage, ExceptionMessage, CollectionMessage as CollectionRow, Row, Objects, Classes, Booleans, Numbers, Characters, Transcripts, Strings, Sequences, Collections, Blocks, Exceptions, Slots}
+use Rattle.st_collections.specs.declared.message.CollectionMessage.{CollectionMessage}
+use Rattle.st_collections.specs.declared.message.OfMaking.{OfMaking}
+use Rattle.st_collections.specs.declared.message.OfOrdered.{OfOrdered}
+use Rattle.st_collections.specs.declared.message.OfPair.{OfPair}
+use Rattle.st_collections.specs.AtOnce.{character_row, string_row, sequence_row}
+use Rattle.st_numbers.specs.declared.message.NumberMessage.{NumberMessage as PlainNumber}
+use Rattle.st_messages.specs.declared.row.MessageRow.{MessageRow}
+use Rattle.st_messages.specs.declared.row.OfObject.{OfObject}
+use Rattle.st_messages.specs.declared.row.OfClass.{OfClass}
+use Rattle.st_messages.specs.declared.row.OfBoolean.{OfBoolean}
+use Rattle.st_messages.specs.declared.row.OfNumber.{OfNumber}
+use Rattle.st_messages.specs.declared.row.OfTranscript.{OfTranscript}
+use Rattle.st_messages.specs.declared.row.OfBlock.{OfBlock}
+use Rattle.st_messages.specs.declared.row.OfException.{OfException}
+use Rattle.st_messages.specs.Replies.{control_row}
+
+abbrev pub object_row : OfObject → ObjectMessage
+object_row OfObject.Same = ObjectMessage.Same
+object_row OfObject.NotSame = ObjectMessage.NotSame
+object_row OfObject.ClassOf = ObjectMessage.ClassOf
+object_row OfObject.IsNil = ObjectMessage.IsNil
+object_row OfObject.NotNil = ObjectMessage.NotNil
+object_row OfObject.IsString = ObjectMessage.IsString
+object_row OfObject.IsSymbol = ObjectMessage.IsSymbol
+object_row OfObject.IsKindOf = ObjectMessage.IsKindOf
+object_row OfObject.IsMemberOf = ObjectMessage.IsMemberOf
+object_row OfObject.RespondsTo = ObjectMessage.RespondsTo
+object_row OfObject.Hash = ObjectMessage.Hash
+object_row OfObject.Yourself = ObjectMessage.Yourself
+object_row OfObject.Copy = ObjectMessage.Copy
+object_row OfObject.PrintString = ObjectMessage.PrintString
+object_row OfObject.DisplayString = ObjectMessage.DisplayString
+object_row OfObject.Size = ObjectMessage.Size
+object_row OfObject.At = ObjectMessage.At
+object_row OfObject.AtPut = ObjectMessage.AtPut
+object_row OfObject.ErrorText = ObjectMessage.ErrorText
+object_row OfObject.SubclassResponsibility = ObjectMessage.SubclassResponsibility
+object_row OfObject.NotUnderstood = ObjectMessage.NotUnderstood
+object_row OfObject.Perform = ObjectMessage.Perform
+object_row OfObject.PerformWithArguments = ObjectMessage.PerformWithArguments
+
+abbrev pub class_row : OfClass → ClassMessage
+class_row OfClass.Name = ClassMessage.Name
+class_row OfClass.Superclass = ClassMessage.Superclass
+class_row OfClass.New = ClassMessage.New
+class_row OfClass.NewSize = ClassMessage.NewSize
+
+abbrev pub boolean_row : OfBoolean → BooleanMessage
+boolean_row OfBoolean.And = BooleanMessage.And
+boolean_row OfBoolean.Or = BooleanMessage.Or
+boolean_row OfBoolean.Not = BooleanMessage.Not
+boolean_row OfBoolean.Xor = BooleanMessage.Xor
+boolean_row OfBoolean.AndThen = BooleanMessage.AndThen
+boolean_row OfBoolean.OrElse = BooleanMessage.OrElse
+boolean_row OfBoolean.IfTrue = BooleanMessage.IfTrue
+boolean_row OfBoolean.IfFalse = BooleanMessage.IfFalse
+boolean_row OfBoolean.IfTrueIfFalse = BooleanMessage.IfTrueIfFalse
+boolean_row OfBoolean.IfFalseIfTrue = BooleanMessage.IfFalseIfTrue
+
+abbrev pub plain_row : PlainNumber → NumberMessage
+plain_row PlainNumber.Add = NumberMessage.Add
+plain_row PlainNumber.Subtract = NumberMessage.Subtract
+plain_row PlainNumber.Multiply = NumberMessage.Multiply
+plain_row PlainNumber.Divide = NumberMessage.Divide
+plain_row PlainNumber.FloorDivide = NumberMessage.FloorDivide
+plain_row PlainNumber.Modulo = NumberMessage.FloorModulo
+plain_row PlainNumber.Quo = NumberMessage.Quotient
+plain_row PlainNumber.Rem = NumberMessage.Remainder
+plain_row PlainNumber.Less = NumberMessage.Less
+plain_row PlainNumber.Greater = NumberMessage.Greater
+plain_row PlainNumber.LessOrEqual = NumberMessage.LessOrEqual
+plain_row PlainNumber.GreaterOrEqual = NumberMessage.GreaterOrEqual
+plain_row PlainNumber.Equal = NumberMessage.Equal
+plain_row PlainNumber.Negated = NumberMessage.Negated
+plain_row PlainNumber.Abs = NumberMessage.Abs
+plain_row PlainNumber.Sign = NumberMessage.Sign
+plain_row PlainNumber.Even = NumberMessage.Even
+plain_row PlainNumber.Odd = NumberMessage.Odd
+plain_row PlainNumber.IsZero = NumberMessage.IsZero
+plain_row PlainNumber.Max = NumberMessage.Max
+plain_row PlainNumber.Min = NumberMessage.Min
+plain_row PlainNumber.Gcd = NumberMessage.Gcd
+plain_row PlainNumber.Lcm = NumberMessage.Lcm
+plain_row PlainNumber.BitAnd = NumberMessage.BitAnd
+plain_row PlainNumber.BitOr = NumberMessage.BitOr
+plain_row PlainNumber.BitXor = NumberMessage.BitXor
+plain_row PlainNumber.BitShift = NumberMessage.BitShift
+plain_row PlainNumber.Numerator = NumberMessage.Numerator
+plain_row PlainNumber.Denominator = NumberMessage.Denominator
+plain_row PlainNumber.Truncated = NumberMessage.Truncated
+plain_row PlainNumber.Reciprocal = NumberMessage.Reciprocal
+
+abbrev pub number_row : OfNumber → NumberMessage
+number_row (OfNumber.Plain m) = plain_row m
+number_row OfNumber.AsString = NumberMessage.AsString
+number_row OfNumber.PrintRadix = NumberMessage.PrintRadix
+number_row OfNumber.To = NumberMessage.To
+number_row OfNumber.ToBy = NumberMessage.ToBy
+number_row OfNumber.FromNumerator = NumberMessage.FromNumerator
+
+abbrev pub transcript_row : OfTranscript → TranscriptMessage
+transcript_row OfTranscript.Show = TranscriptMessage.Show
+transcript_row OfTranscript.NextPut = TranscriptMessage.NextPut
+transcript_row OfTranscript.Flush = TranscriptMessage.Flush
+transcript_row (OfTranscript.WriteByte byte) = TranscriptMessage.WriteByte byte
+
+abbrev pub block_row : OfBlock → BlockMessage
+block_row OfBlock.Value = BlockMessage.Value
+block_row OfBlock.ValueWithArguments = BlockMessage.ValueWithArguments
+block_row OfBlock.NumArgs = BlockMessage.NumArgs
+block_row OfBlock.OnDo = BlockMessage.OnDo
+block_row OfBlock.Ensure = BlockMessage.Ensure
+block_row OfBlock.IfCurtailed = BlockMessage.IfCurtailed
+
+abbrev pub exception_row : OfException → ExceptionMessage
+exception_row OfException.New = ExceptionMessage.New
+exception_row OfException.SignalNew = ExceptionMessage.SignalNew
+exception_row OfException.Join = ExceptionMessage.Join
+exception_row OfException.Handles = ExceptionMessage.Handles
+exception_row OfException.Signal = ExceptionMessage.Signal
+exception_row OfException.SignalText = ExceptionMessage.SignalText
+exception_row OfException.MessageText = ExceptionMessage.MessageText
+exception_row OfException.SetMessageText = ExceptionMessage.SetMessageText
+exception_row OfException.Description = ExceptionMessage.Description
+exception_row (OfException.Controls control) = ExceptionMessage.Controls (control_row control)
+exception_row (OfException.IsResumable answer) = ExceptionMessage.IsResumable answer
+exception_row OfException.TerminatesProgram = ExceptionMessage.TerminatesProgram
+exception_row OfException.AnswersNil = ExceptionMessage.AnswersNil
+exception_row OfException.Warns = ExceptionMessage.Warns
+
+abbrev pub making_row : OfMaking → Row
+making_row OfMaking.Array = Collections CollectionRow.NewArray
+making_row OfMaking.ByteArray = Collections CollectionRow.NewByteArray
+making_row OfMaking.With = Collections CollectionRow.With
+making_row OfMaking.WithAll = Collections CollectionRow.WithAll
+making_row OfMaking.Empty = Collections CollectionRow.NewEmpty
+making_row OfMaking.KeyValue = Collections CollectionRow.KeyValue
+making_row OfMaking.Arrow = Objects ObjectMessage.Arrow
+making_row OfMaking.To = Numbers NumberMessage.To
+making_row OfMaking.ToBy = Numbers NumberMessage.ToBy
+
+abbrev pub ordered_row : OfOrdered → CollectionRow
+ordered_row OfOrdered.Add = CollectionRow.Add
+ordered_row OfOrdered.AddFirst = CollectionRow.AddFirst
+ordered_row OfOrdered.RemoveFirst = CollectionRow.RemoveFirst
+ordered_row OfOrdered.RemoveLast = CollectionRow.RemoveLast
+ordered_row OfOrdered.AddBeforeIndex = CollectionRow.AddBeforeIndex
+ordered_row OfOrdered.RemoveAtIndex = CollectionRow.RemoveAtIndex
+
+abbrev pub pair_row : OfPair → Row
+pair_row OfPair.Keys = Collections CollectionRow.Keys
+pair_row OfPair.Values = Collections CollectionRow.Values
+pair_row OfPair.Key = Slots 0
+pair_row OfPair.Value = Slots 1
+
+abbrev pub collection_row : CollectionMessage → Row
+collection_row (CollectionMessage.Character m) = Characters (character_row m)
+collection_row (CollectionMessage.String m) = Strings (string_row m)
+collection_row (CollectionMessage.Sequence m) = Sequences (sequence_row m)
+collection_row (CollectionMessage.Making m) = making_row m
+collection_row (CollectionMessage.Ordered m) = Collections (ordered_row m)
+collection_row (CollectionMessage.Pair m) = pair_row m
+
+-- the row of the table
+abbrev pub table_row : MessageRow → Row
+table_row (MessageRow.Object m) = Objects (object_row m)
+table_row (MessageRow.Class m) = Classes (class_row m)
+table_row (MessageRow.Boolean m) = Booleans (boolean_row m)
+table_row (MessageRow.Number m) = Numbers (number_row m)
+table_row (MessageRow.Transcript m) = Transcripts (transcript_row m)
+table_row (MessageRow.Collection m) = collection_row m
+table_row (MessageRow.Block m) = Blocks (block_row m)
+table_row (MessageRow.Exception m) = Exceptions (exception_row m)
+table_row (MessageRow.Slot slot) = Slots slot

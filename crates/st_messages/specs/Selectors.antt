@@ -1,0 +1,14 @@
+-- Which exceptions a plain selector fits.
+use Rattle.std.specs.Prelude.{ℕ, Bool, true, false, List, [], ◌∷◌}
+use Rattle.object_heap.specs.declared.value.Value.{Value}
+use Rattle.object_heap.specs.declared.value.Value.TheVariants.{Class}
+use Rattle.st_code.specs.Program.{Program}
+use Rattle.st_code.specs.Lookup.{inherits}
+
+abbrev pub fits_one : Program → ℕ → Value → Bool
+fits_one p class (Class ancestor) = inherits p class ancestor
+fits_one p class _ = false
+
+abbrev pub fits_any : Program → ℕ → List Value → Bool
+fits_any p class [] = false
+fits_any p class (v ∷ vs) = elim (fits_one p class v) [ true ↦ true | false ↦ fits_any p class vs ]

@@ -1,0 +1,30 @@
+// What each built-in message and each send does at once: an answer, or what a machine goes on with. A reply names the values that go on by where they stand, so that no memory is taken for them.
+#![tactic(auto)]
+
+mod arguments;
+mod blocks;
+mod booleans;
+mod built_in;
+mod classes;
+mod exceptions;
+mod facts;
+mod level;
+mod makers;
+mod objects;
+mod pieces;
+mod printed;
+mod reply;
+mod row;
+mod spelling;
+mod texts;
+mod transcripts;
+mod values;
+
+pub use blocks::block_message;
+pub use booleans::boolean_message;
+pub use facts::ProgramFacts;
+pub use reply::{Control, Passed, Reply, Written};
+pub use row::{
+    MessageRow, OfBlock, OfBoolean, OfClass, OfException, OfNumber, OfObject, OfTranscript,
+};
+pub use transcripts::transcript_message;

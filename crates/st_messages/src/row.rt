@@ -1,0 +1,189 @@
+// The rows of the table of built-in messages, by what they do.
+use crate::reply::Control;
+use st_collections::CollectionMessage;
+use st_numbers::NumberMessage;
+
+/// A row of the table of built-in messages that acts at once (ANSI NCITS 319, 5).
+#[derive(Clone, Copy, Debug, PartialEq, Eq)]
+pub enum MessageRow {
+    Object(OfObject),
+    Class(OfClass),
+    Boolean(OfBoolean),
+    Number(OfNumber),
+    Transcript(OfTranscript),
+    /// Of characters, strings and collections.
+    Collection(CollectionMessage),
+    Block(OfBlock),
+    Exception(OfException),
+    /// Answers the receiver's slot at this place, from 0.
+    Slot(u32),
+}
+
+/// The messages of every object (section 5.3.1).
+#[derive(Clone, Copy, Debug, PartialEq, Eq)]
+pub enum OfObject {
+    /// `=` and `==`
+    Same,
+    /// `~~`
+    NotSame,
+    /// `class`
+    ClassOf,
+    /// `isNil`
+    IsNil,
+    /// `notNil`
+    NotNil,
+    /// `isString`
+    IsString,
+    /// `isSymbol`
+    IsSymbol,
+    /// `isKindOf:`
+    IsKindOf,
+    /// `isMemberOf:`
+    IsMemberOf,
+    /// `respondsTo:`
+    RespondsTo,
+    /// `hash`
+    Hash,
+    /// `yourself`
+    Yourself,
+    /// `copy`
+    Copy,
+    /// `printString`
+    PrintString,
+    /// `displayString`
+    DisplayString,
+    /// `size`
+    Size,
+    /// `at:`
+    At,
+    /// `at:put:`
+    AtPut,
+    /// `error:`
+    ErrorText,
+    /// `subclassResponsibility`
+    SubclassResponsibility,
+    /// `doesNotUnderstand:`
+    NotUnderstood,
+    /// `perform:`, `perform:with:` and `perform:with:with:`
+    Perform,
+    /// `perform:withArguments:`
+    PerformWithArguments,
+}
+
+/// The messages of classes (section 5.3.2).
+#[derive(Clone, Copy, Debug, PartialEq, Eq)]
+pub enum OfClass {
+    /// `name`
+    Name,
+    /// `superclass`
+    Superclass,
+    /// `new`
+    New,
+    /// `new:`
+    NewSize,
+}
+
+/// The messages of Booleans (section 5.3.3).
+#[derive(Clone, Copy, Debug, PartialEq, Eq)]
+pub enum OfBoolean {
+    /// `&`
+    And,
+    /// `|`
+    Or,
+    /// `not`
+    Not,
+    /// `xor:`
+    Xor,
+    /// `and:`
+    AndThen,
+    /// `or:`
+    OrElse,
+    /// `ifTrue:`
+    IfTrue,
+    /// `ifFalse:`
+    IfFalse,
+    /// `ifTrue:ifFalse:`
+    IfTrueIfFalse,
+    /// `ifFalse:ifTrue:`
+    IfFalseIfTrue,
+}
+
+/// The messages of Integers and Fractions (section 5.6).
+#[derive(Clone, Copy, Debug, PartialEq, Eq)]
+pub enum OfNumber {
+    /// One that takes no memory but for a Fraction.
+    Plain(NumberMessage),
+    /// `asString`
+    AsString,
+    /// `printString:`
+    PrintRadix,
+    /// `to:`
+    To,
+    /// `to:by:`
+    ToBy,
+    /// `numerator:denominator:` of class Fraction
+    FromNumerator,
+}
+
+/// The messages of the Transcript (section 5.10).
+#[derive(Clone, Copy, Debug, PartialEq, Eq)]
+pub enum OfTranscript {
+    /// `show:` and `nextPutAll:`
+    Show,
+    /// `nextPut:`
+    NextPut,
+    /// `flush`
+    Flush,
+    /// `cr`, `tab` and `space`, by the byte
+    WriteByte(u8),
+}
+
+/// The messages of Blocks (section 5.4.3).
+#[derive(Clone, Copy, Debug, PartialEq, Eq)]
+pub enum OfBlock {
+    /// `value` to `value:value:value:value:`
+    Value,
+    /// `valueWithArguments:`
+    ValueWithArguments,
+    /// `numArgs`
+    NumArgs,
+    /// `on:do:`
+    OnDo,
+    /// `ensure:`
+    Ensure,
+    /// `ifCurtailed:`
+    IfCurtailed,
+}
+
+/// The messages of exceptions, their classes and ExceptionSets (section 5.5).
+#[derive(Clone, Copy, Debug, PartialEq, Eq)]
+pub enum OfException {
+    /// `new` of the class
+    New,
+    /// `signal` and `signal:` of the class
+    SignalNew,
+    /// `,`
+    Join,
+    /// `handles:`
+    Handles,
+    /// `signal`
+    Signal,
+    /// `signal:`
+    SignalText,
+    /// `messageText`
+    MessageText,
+    /// `messageText:`
+    SetMessageText,
+    /// `description`
+    Description,
+    /// What a handler tells its exception.
+    Controls(Control),
+    /// `isResumable`, by what it answers
+    IsResumable(bool),
+    /// `defaultAction` of Exception
+    TerminatesProgram,
+    /// `defaultAction` of Notification
+    AnswersNil,
+    /// `defaultAction` of Warning
+    Warns,
+}
