@@ -4,3 +4,4 @@ pub mod Spellings
 pub mod Levels
 pub mod Selectors
 pub mod Pieces
+pub mod Printed

@@ -9,6 +9,7 @@ use Rattle.st_collections.specs.AtOnce.{character_row, string_row, sequence_row}
 use Rattle.st_numbers.specs.declared.message.NumberMessage.{NumberMessage as PlainNumber}
 use Rattle.st_messages.specs.declared.row.MessageRow.{MessageRow}
 use Rattle.st_messages.specs.declared.row.OfObject.{OfObject}
+use Rattle.st_messages.specs.declared.row.OfQuestion.{OfQuestion}
 use Rattle.st_messages.specs.declared.row.OfClass.{OfClass}
 use Rattle.st_messages.specs.declared.row.OfBoolean.{OfBoolean}
 use Rattle.st_messages.specs.declared.row.OfNumber.{OfNumber}
@@ -17,19 +18,22 @@ use Rattle.st_messages.specs.declared.row.OfBlock.{OfBlock}
 use Rattle.st_messages.specs.declared.row.OfException.{OfException}
 use Rattle.st_messages.specs.Replies.{control_row}
 
+abbrev pub question_row : OfQuestion → ObjectMessage
+question_row OfQuestion.Same = ObjectMessage.Same
+question_row OfQuestion.NotSame = ObjectMessage.NotSame
+question_row OfQuestion.ClassOf = ObjectMessage.ClassOf
+question_row OfQuestion.IsNil = ObjectMessage.IsNil
+question_row OfQuestion.NotNil = ObjectMessage.NotNil
+question_row OfQuestion.IsString = ObjectMessage.IsString
+question_row OfQuestion.IsSymbol = ObjectMessage.IsSymbol
+question_row OfQuestion.IsKindOf = ObjectMessage.IsKindOf
+question_row OfQuestion.IsMemberOf = ObjectMessage.IsMemberOf
+question_row OfQuestion.RespondsTo = ObjectMessage.RespondsTo
+question_row OfQuestion.Hash = ObjectMessage.Hash
+question_row OfQuestion.Yourself = ObjectMessage.Yourself
+
 abbrev pub object_row : OfObject → ObjectMessage
-object_row OfObject.Same = ObjectMessage.Same
-object_row OfObject.NotSame = ObjectMessage.NotSame
-object_row OfObject.ClassOf = ObjectMessage.ClassOf
-object_row OfObject.IsNil = ObjectMessage.IsNil
-object_row OfObject.NotNil = ObjectMessage.NotNil
-object_row OfObject.IsString = ObjectMessage.IsString
-object_row OfObject.IsSymbol = ObjectMessage.IsSymbol
-object_row OfObject.IsKindOf = ObjectMessage.IsKindOf
-object_row OfObject.IsMemberOf = ObjectMessage.IsMemberOf
-object_row OfObject.RespondsTo = ObjectMessage.RespondsTo
-object_row OfObject.Hash = ObjectMessage.Hash
-object_row OfObject.Yourself = ObjectMessage.Yourself
+object_row (OfObject.Question m) = question_row m
 object_row OfObject.Copy = ObjectMessage.Copy
 object_row OfObject.PrintString = ObjectMessage.PrintString
 object_row OfObject.DisplayString = ObjectMessage.DisplayString

@@ -6,13 +6,17 @@ mod blocks;
 mod booleans;
 mod built_in;
 mod classes;
+mod exception_texts;
 mod exceptions;
 mod facts;
+mod indexed;
 mod level;
 mod makers;
 mod objects;
+mod performs;
 mod pieces;
 mod printed;
+mod questions;
 mod reply;
 mod row;
 mod spelling;
@@ -25,6 +29,7 @@ pub use booleans::boolean_message;
 pub use facts::ProgramFacts;
 pub use reply::{Control, Passed, Reply, Written};
 pub use row::{
-    MessageRow, OfBlock, OfBoolean, OfClass, OfException, OfNumber, OfObject, OfTranscript,
+    MessageRow, OfBlock, OfBoolean, OfClass, OfException, OfNumber, OfObject, OfQuestion,
+    OfTranscript,
 };
 pub use transcripts::transcript_message;

@@ -1,230 +1,94 @@
-// Messages of every object that make no text: identity, class, indexed variables and `perform:`.
-ghost use Rattle.std.specs.Prelude.{◌≡◌, false, IsTrue, List, if◌then◌else◌};
-ghost use Rattle.object_heap.specs.declared.value.Value.{Value};
+// Messages of every object.
+ghost use Rattle.std.specs.Prelude.{◌≡◌, false, IsTrue};
 ghost use Rattle.st_code.specs.Messages.{ObjectMessage};
-ghost use Rattle.st_code.specs.Program.{NoIndexes, Program, class_at};
-ghost use Rattle.st_code.specs.Written.{indexed_by};
-ghost use Rattle.st_collections.specs.ObjectRows.{byte_put, object_action};
+ghost use Rattle.st_collections.specs.ObjectRows.{object_action};
 ghost use Rattle.st_messages.specs.Replies.{is_lost, memory_after, seen, told_by, unless_lost};
+ghost use Rattle.st_messages.specs.Rows.{object_row};
 
-use crate::arguments::{first_of, place_of, second_of};
-use crate::built_in::{CLASS, ERROR, MESSAGE_NOT_UNDERSTOOD, METACLASS, OBJECT};
+use crate::arguments::first_of;
+use crate::built_in::{ERROR, MESSAGE_NOT_UNDERSTOOD, STRING};
 use crate::facts::ProgramFacts;
-use crate::level::level_now;
-use crate::reply::{Passed, Reply, answer, answer_trouble, answer_truth};
-use crate::spelling::{arity_of, name_of};
-use crate::values::{is_array, is_same, is_text, slots_now};
+use crate::indexed::{at, at_put, size};
+use crate::performs::{perform, perform_with};
+use crate::pieces::Piece;
+use crate::printed::print_string;
+use crate::questions::question;
+use crate::reply::{Passed, Reply, answer_trouble};
+use crate::row::OfObject;
+use crate::texts::new_text;
 use object_heap::{Heap, Trouble, Value};
-use program_image::Side;
-use st_tree::units::Indexed;
 
-// `isKindOf:`, of a receiver whose lookup begins at this level.
-#[tactic(auto, unfolding(st_collections::specs::ObjectRows::object_action, st_code::specs::Lookup::walk, st_code::specs::Lookup::inherits))]
-fn is_kind_of<H: Heap, P: ProgramFacts>(
-    heap: &H,
-    program: &P,
-    receiver: Value,
-    arguments: &[Value],
-) -> Reply
-    ensures reply { seen (P.meaning program.now) (H.meaning heap.now).store arguments.now result ≡ told_by (object_action (P.meaning program.now) (H.meaning heap.now).store ObjectMessage.IsKindOf receiver arguments.now) (H.meaning heap.now) }
-    ensures kept { memory_after (object_action (P.meaning program.now) (H.meaning heap.now).store ObjectMessage.IsKindOf receiver arguments.now) (H.meaning heap.now) ≡ H.meaning heap.now }
-    ensures settled { is_lost result ≡ false }
-{
-    let level = level_now(heap, receiver);
-    match (first_of(arguments), level.side) {
-        (Value::Class(class), Side::Instance) => {
-            answer_truth(program.is_under(level.class, class))
-        }
-        (Value::Class(class), Side::Class) => answer_truth(class == CLASS || class == OBJECT),
-        (Value::Class(class), Side::Meta) => answer_truth(class == METACLASS || class == OBJECT),
-        (Value::Meta(class), Side::Class) => answer_truth(program.is_under(level.class, class)),
-        _ => answer_truth(false),
-    }
-}
-
-// `respondsTo:`.
-#[tactic(auto, unfolding(st_collections::specs::ObjectRows::object_action))]
-fn responds_to<H: Heap, P: ProgramFacts>(
-    heap: &H,
-    program: &P,
-    receiver: Value,
-    arguments: &[Value],
-) -> Reply
-    ensures reply { seen (P.meaning program.now) (H.meaning heap.now).store arguments.now result ≡ told_by (object_action (P.meaning program.now) (H.meaning heap.now).store ObjectMessage.RespondsTo receiver arguments.now) (H.meaning heap.now) }
-    ensures kept { memory_after (object_action (P.meaning program.now) (H.meaning heap.now).store ObjectMessage.RespondsTo receiver arguments.now) (H.meaning heap.now) ≡ H.meaning heap.now }
-    ensures settled { is_lost result ≡ false }
-{
-    let level = level_now(heap, receiver);
-    match first_of(arguments) {
-        Value::Symbol(name) => {
-            answer_truth(program.find(level.side, level.class, name).is_some())
-        }
-        _ => answer_trouble(Trouble::SymbolExpected),
-    }
-}
-
-// `perform:` and its kin.
-#[tactic(auto, unfolding(st_collections::specs::ObjectRows::object_action))]
-fn perform<H: Heap, P: ProgramFacts>(
-    heap: &H,
-    program: &P,
-    receiver: Value,
-    arguments: &[Value],
-) -> Reply
-    ensures reply { seen (P.meaning program.now) (H.meaning heap.now).store arguments.now result ≡ told_by (object_action (P.meaning program.now) (H.meaning heap.now).store ObjectMessage.Perform receiver arguments.now) (H.meaning heap.now) }
-    ensures kept { memory_after (object_action (P.meaning program.now) (H.meaning heap.now).store ObjectMessage.Perform receiver arguments.now) (H.meaning heap.now) ≡ H.meaning heap.now }
-    ensures settled { is_lost result ≡ false }
-{
-    let Value::Symbol(name) = first_of(arguments) else {
-        return answer_trouble(Trouble::SymbolExpected);
-    };
-    if arity_of(name_of(program.names(), name)) == arguments.len().saturating_sub(1) {
-        return Reply::Sends(name, receiver, Passed::Behind);
-    }
-    answer_trouble(Trouble::WrongNumberOfArguments)
-}
-
-// `perform:withArguments:`.
-#[tactic(auto, unfolding(st_collections::specs::ObjectRows::object_action))]
-fn perform_with<H: Heap, P: ProgramFacts>(
-    heap: &H,
-    program: &P,
-    receiver: Value,
-    arguments: &[Value],
-) -> Reply
-    ensures reply { seen (P.meaning program.now) (H.meaning heap.now).store arguments.now result ≡ told_by (object_action (P.meaning program.now) (H.meaning heap.now).store ObjectMessage.PerformWithArguments receiver arguments.now) (H.meaning heap.now) }
-    ensures kept { memory_after (object_action (P.meaning program.now) (H.meaning heap.now).store ObjectMessage.PerformWithArguments receiver arguments.now) (H.meaning heap.now) ≡ H.meaning heap.now }
-    ensures settled { is_lost result ≡ false }
-{
-    let Value::Symbol(name) = first_of(arguments) else {
-        return answer_trouble(Trouble::SymbolExpected);
-    };
-    let array = second_of(arguments);
-    if !is_array(heap, array) {
-        return answer_trouble(Trouble::CollectionExpected);
-    }
-    if arity_of(name_of(program.names(), name)) as u64 == slots_now(heap, array) as u64 {
-        return Reply::Sends(name, receiver, Passed::SlotsOf(array));
-    }
-    answer_trouble(Trouble::WrongNumberOfArguments)
-}
-
-// How the instances of a class of the file are indexed.
-fn index_kind<P: ProgramFacts>(program: &P, class: u32) -> Indexed
-    ensures { indexed_by result ≡ (if (class_at (P.meaning program.now) class).in_file then (class_at (P.meaning program.now) class).indexed else NoIndexes) }
-{
-    if program.is_in_file(class) {
-        return program.indexed(class);
-    }
-    Indexed::None
-}
-
-// `size`.
-#[tactic(auto, unfolding(st_collections::specs::ObjectRows::object_action))]
-fn size<H: Heap, P: ProgramFacts>(
-    heap: &H,
-    program: &P,
-    receiver: Value,
-    arguments: &[Value],
-) -> Reply
-    ensures reply { seen (P.meaning program.now) (H.meaning heap.now).store arguments.now result ≡ told_by (object_action (P.meaning program.now) (H.meaning heap.now).store ObjectMessage.Size receiver arguments.now) (H.meaning heap.now) }
-    ensures kept { memory_after (object_action (P.meaning program.now) (H.meaning heap.now).store ObjectMessage.Size receiver arguments.now) (H.meaning heap.now) ≡ H.meaning heap.now }
-    ensures settled { is_lost result ≡ false }
-{
-    let Value::Object(object) = receiver else {
-        return answer_trouble(Trouble::NotIndexed);
-    };
-    let class = heap.class_of(object);
-    let named = program.slot_count(class);
-    match index_kind(program, class) {
-        Indexed::None => answer_trouble(Trouble::NotIndexed),
-        Indexed::Object => {
-            let size = heap.length(object).saturating_sub(named);
-            answer(Value::Integer(size as i128))
-        }
-        Indexed::Byte => answer(Value::Integer(heap.byte_length(object) as i128)),
-    }
-}
-
-// `at:`.
-#[tactic(auto, unfolding(st_collections::specs::ObjectRows::object_action))]
-fn at<H: Heap, P: ProgramFacts>(
-    heap: &H,
-    program: &P,
-    receiver: Value,
-    arguments: &[Value],
-) -> Reply
-    ensures reply { seen (P.meaning program.now) (H.meaning heap.now).store arguments.now result ≡ told_by (object_action (P.meaning program.now) (H.meaning heap.now).store ObjectMessage.At receiver arguments.now) (H.meaning heap.now) }
-    ensures kept { memory_after (object_action (P.meaning program.now) (H.meaning heap.now).store ObjectMessage.At receiver arguments.now) (H.meaning heap.now) ≡ H.meaning heap.now }
-    ensures settled { is_lost result ≡ false }
-{
-    let Value::Object(object) = receiver else {
-        return answer_trouble(Trouble::NotIndexed);
-    };
-    let class = heap.class_of(object);
-    let named = program.slot_count(class);
-    let index = first_of(arguments);
-    match index_kind(program, class) {
-        Indexed::None => answer_trouble(Trouble::NotIndexed),
-        Indexed::Object => match place_of(index, heap.length(object).saturating_sub(named)) {
-            Ok(place) => answer(heap.get(object, named + place)),
-            Err(trouble) => answer_trouble(trouble),
-        },
-        Indexed::Byte => match place_of(index, heap.byte_length(object)) {
-            Ok(place) => answer(Value::Integer(heap.get_byte(object, place) as i128)),
-            Err(trouble) => answer_trouble(trouble),
-        },
-    }
-}
-
-// Writes a byte of an object.
-fn put_byte<H: Heap>(heap: &mut H, object: u32, place: u32, value: Value) -> Reply
-    ensures memory { H.meaning heap.new ≡ memory_after (byte_put (H.meaning heap.old).store object place value) (H.meaning heap.old) }
-    ensures reply { (p : Program) (args : List Value) → seen p (H.meaning heap.old).store args result ≡ told_by (byte_put (H.meaning heap.old).store object place value) (H.meaning heap.old) }
-    ensures settled { is_lost result ≡ false }
-    ensures literals { H.literal_room heap.new ≡ H.literal_room heap.old }
-{
-    match value {
-        Value::Integer(byte @ 0..=255) => {
-            heap.put_byte(object, place, byte as u8);
-            answer(value)
-        }
-        _ => answer_trouble(Trouble::ByteExpected),
-    }
-}
-
-// `at:put:`.
-#[tactic(auto, unfolding(st_collections::specs::ObjectRows::object_action))]
-fn at_put<H: Heap, P: ProgramFacts>(
+// `printString`.
+#[tactic(auto, unfolding(st_collections::specs::ObjectRows::object_action, st_collections::specs::Actions::makes_string, st_collections::specs::Actions::makes_bytes))]
+fn print<H: Heap, P: ProgramFacts>(
     heap: &mut H,
     program: &P,
     receiver: Value,
     arguments: &[Value],
 ) -> Reply
-    ensures memory { H.meaning heap.new ≡ unless_lost result (H.meaning heap.old) (memory_after (object_action (P.meaning program.now) (H.meaning heap.old).store ObjectMessage.AtPut receiver arguments.now) (H.meaning heap.old)) }
-    ensures reply { let said = seen (P.meaning program.now) (H.meaning heap.old).store arguments.now result in said ≡ unless_lost result said (told_by (object_action (P.meaning program.now) (H.meaning heap.old).store ObjectMessage.AtPut receiver arguments.now) (H.meaning heap.old)) }
+    ensures memory { H.meaning heap.new ≡ unless_lost result (H.meaning heap.old) (memory_after (object_action (P.meaning program.now) (H.meaning heap.old).store ObjectMessage.PrintString receiver arguments.now) (H.meaning heap.old)) }
+    ensures reply { let said = seen (P.meaning program.now) (H.meaning heap.old).store arguments.now result in said ≡ unless_lost result said (told_by (object_action (P.meaning program.now) (H.meaning heap.old).store ObjectMessage.PrintString receiver arguments.now) (H.meaning heap.old)) }
     ensures reserved { IsTrue H.reserved → is_lost result ≡ false }
     ensures literals { H.literal_room heap.new ≡ H.literal_room heap.old }
 {
-    let Value::Object(object) = receiver else {
-        return answer_trouble(Trouble::NotIndexed);
-    };
-    let class = heap.class_of(object);
-    let named = program.slot_count(class);
-    let index = first_of(arguments);
-    let value = second_of(arguments);
-    match index_kind(program, class) {
-        Indexed::None => answer_trouble(Trouble::NotIndexed),
-        Indexed::Object => match place_of(index, heap.length(object).saturating_sub(named)) {
-            Ok(place) => {
-                heap.put(object, named + place, value);
-                answer(value)
+    Reply::Answer(print_string(heap, program, receiver))
+}
+
+// `displayString`.
+#[tactic(auto, unfolding(st_collections::specs::ObjectRows::object_action, st_collections::specs::Kinds::bytes_of, st_collections::specs::Actions::makes_string, st_collections::specs::Actions::makes_bytes))]
+fn display<H: Heap, P: ProgramFacts>(
+    heap: &mut H,
+    program: &P,
+    receiver: Value,
+    arguments: &[Value],
+) -> Reply
+    ensures memory { H.meaning heap.new ≡ unless_lost result (H.meaning heap.old) (memory_after (object_action (P.meaning program.now) (H.meaning heap.old).store ObjectMessage.DisplayString receiver arguments.now) (H.meaning heap.old)) }
+    ensures reply { let said = seen (P.meaning program.now) (H.meaning heap.old).store arguments.now result in said ≡ unless_lost result said (told_by (object_action (P.meaning program.now) (H.meaning heap.old).store ObjectMessage.DisplayString receiver arguments.now) (H.meaning heap.old)) }
+    ensures reserved { IsTrue H.reserved → is_lost result ≡ false }
+    ensures literals { H.literal_room heap.new ≡ H.literal_room heap.old }
+{
+    match receiver {
+        Value::Character(byte) => Reply::Answer(new_text(heap, program, &[Piece::Byte(byte)])),
+        Value::Symbol(name) => Reply::Answer(new_text(heap, program, &[Piece::Name(name)])),
+        Value::Object(object) => {
+            if heap.class_of(object) == STRING {
+                return Reply::Answer(new_text(heap, program, &[Piece::Bytes(object)]));
             }
-            Err(trouble) => answer_trouble(trouble),
-        },
-        Indexed::Byte => match place_of(index, heap.byte_length(object)) {
-            Ok(place) => put_byte(heap, object, place, value),
-            Err(trouble) => answer_trouble(trouble),
-        },
+            Reply::Sends(program.name_number(b"printString"), receiver, Passed::None)
+        }
+        _ => Reply::Sends(program.name_number(b"printString"), receiver, Passed::None),
+    }
+}
+
+/// What any object answers (section 5.3.1).
+#[tactic(auto, unfolding(st_collections::specs::ObjectRows::object_action))]
+pub fn object_message<H: Heap, P: ProgramFacts>(
+    heap: &mut H,
+    program: &P,
+    message: OfObject,
+    receiver: Value,
+    arguments: &[Value],
+) -> Reply
+    ensures memory { H.meaning heap.new ≡ unless_lost result (H.meaning heap.old) (memory_after (object_action (P.meaning program.now) (H.meaning heap.old).store (object_row message) receiver arguments.now) (H.meaning heap.old)) }
+    ensures reply { let said = seen (P.meaning program.now) (H.meaning heap.old).store arguments.now result in said ≡ unless_lost result said (told_by (object_action (P.meaning program.now) (H.meaning heap.old).store (object_row message) receiver arguments.now) (H.meaning heap.old)) }
+    ensures reserved { IsTrue H.reserved → is_lost result ≡ false }
+    ensures literals { H.literal_room heap.new ≡ H.literal_room heap.old }
+{
+    match message {
+        OfObject::Question(m) => question(heap, program, m, receiver, arguments),
+        OfObject::Copy => copy(heap, program, receiver, arguments),
+        OfObject::PrintString => print(heap, program, receiver, arguments),
+        OfObject::DisplayString => display(heap, program, receiver, arguments),
+        OfObject::Size => size(heap, program, receiver, arguments),
+        OfObject::At => at(heap, program, receiver, arguments),
+        OfObject::AtPut => at_put(heap, program, receiver, arguments),
+        OfObject::ErrorText => Reply::RaisesNew(ERROR, Passed::One(first_of(arguments))),
+        OfObject::SubclassResponsibility => answer_trouble(Trouble::SubclassResponsibility),
+        OfObject::NotUnderstood => {
+            let slots = Passed::Three(Value::Nil, first_of(arguments), receiver);
+            Reply::RaisesNew(MESSAGE_NOT_UNDERSTOOD, slots)
+        }
+        OfObject::Perform => perform(heap, program, receiver, arguments),
+        OfObject::PerformWithArguments => perform_with(heap, program, receiver, arguments),
     }
 }

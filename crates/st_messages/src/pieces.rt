@@ -97,6 +97,7 @@ fn put_doubled<H: Heap>(heap: &mut H, object: u32, at: u32, bytes: &[u8]) -> u32
 }
 
 // Writes a byte, twice where it is a quote.
+#[tactic(auto, unfolding(st_code::specs::Texts::quotes_doubled))]
 fn put_doubled_byte<H: Heap>(heap: &mut H, object: u32, at: u32, byte: u8) -> u32
     requires { at + length (quotes_doubled (byte ∷ [])) < 2 ^ 32 }
     ensures written { H.meaning heap.new ≡ with_store (bytes_put object at (quotes_doubled (byte ∷ [])) (H.meaning heap.old).store) (H.meaning heap.old) }
@@ -163,6 +164,7 @@ fn decimal_length(number: i128) -> u128
 }
 
 // How many of the bytes are quotes.
+#[tactic(auto, unfolding(st_code::specs::Texts::quotes_doubled))]
 fn quotes_in(bytes: &[u8]) -> u128
     ensures { result + length bytes.now ≡ length (quotes_doubled bytes.now) }
 {
@@ -176,6 +178,7 @@ fn quotes_in(bytes: &[u8]) -> u128
 }
 
 // How many bytes of an object are quotes.
+#[tactic(auto, unfolding(st_code::specs::Texts::quotes_doubled))]
 fn quotes_in_object<H: Heap>(heap: &H, object: u32) -> u128
     ensures { result + length (object_at object (H.meaning heap.now).store).bytes ≡ length (quotes_doubled (object_at object (H.meaning heap.now).store).bytes) }
 {
@@ -191,7 +194,8 @@ fn quotes_in_object<H: Heap>(heap: &H, object: u32) -> u128
 
 /// How many bytes a piece has.
 pub fn piece_length<H: Heap, P: ProgramFacts>(heap: &H, program: &P, piece: Piece) -> u128
-    ensures { result ≡ length (piece_text (P.meaning program.now) (H.meaning heap.now).store piece) }
+    ensures length { result ≡ length (piece_text (P.meaning program.now) (H.meaning heap.now).store piece) }
+    ensures small { result < 2 ^ 65 }
 {
     match piece {
         Piece::Nothing => 0,

@@ -8,6 +8,7 @@ ghost use Rattle.st_collections.specs.Actions.{makes_string};
 ghost use Rattle.st_collections.specs.Answers.{answer_of, is_out, memory_of, unless_out};
 ghost use Rattle.st_collections.specs.Kinds.{integer_of, print_text};
 ghost use Rattle.st_messages.specs.Pieces.{AreKnown, pieces_text, words_text};
+ghost use Rattle.st_messages.specs.Printed as printed;
 
 use crate::built_in::{FRACTION, STRING};
 use crate::facts::ProgramFacts;
@@ -27,10 +28,8 @@ fn integer_in(value: Value) -> i128
 }
 
 // The pieces of a symbol as it is written.
-#[tactic(auto, unfolding(st_code::specs::Texts::symbol_text, st_code::specs::Texts::quoted))]
 fn symbol_pieces<P: ProgramFacts>(program: &P, name: u32) -> [Piece; 4]
-    ensures text { (s : Store) → pieces_text (P.meaning program.now) s result ≡ symbol_text (name_at (P.meaning program.now) name) }
-    ensures known { (s : Store) → AreKnown s result }
+    ensures { result ≡ printed.symbol_pieces (printed.is_bare (name_at (P.meaning program.now) name)) name }
 {
     if is_bare(name_of(program.names(), name)) {
         return [

@@ -22,6 +22,35 @@ pub enum MessageRow {
 /// The messages of every object (section 5.3.1).
 #[derive(Clone, Copy, Debug, PartialEq, Eq)]
 pub enum OfObject {
+    /// What it is.
+    Question(OfQuestion),
+    /// `copy`
+    Copy,
+    /// `printString`
+    PrintString,
+    /// `displayString`
+    DisplayString,
+    /// `size`
+    Size,
+    /// `at:`
+    At,
+    /// `at:put:`
+    AtPut,
+    /// `error:`
+    ErrorText,
+    /// `subclassResponsibility`
+    SubclassResponsibility,
+    /// `doesNotUnderstand:`
+    NotUnderstood,
+    /// `perform:`, `perform:with:` and `perform:with:with:`
+    Perform,
+    /// `perform:withArguments:`
+    PerformWithArguments,
+}
+
+/// The messages that ask what an object is.
+#[derive(Clone, Copy, Debug, PartialEq, Eq)]
+pub enum OfQuestion {
     /// `=` and `==`
     Same,
     /// `~~`
@@ -46,28 +75,6 @@ pub enum OfObject {
     Hash,
     /// `yourself`
     Yourself,
-    /// `copy`
-    Copy,
-    /// `printString`
-    PrintString,
-    /// `displayString`
-    DisplayString,
-    /// `size`
-    Size,
-    /// `at:`
-    At,
-    /// `at:put:`
-    AtPut,
-    /// `error:`
-    ErrorText,
-    /// `subclassResponsibility`
-    SubclassResponsibility,
-    /// `doesNotUnderstand:`
-    NotUnderstood,
-    /// `perform:`, `perform:with:` and `perform:with:with:`
-    Perform,
-    /// `perform:withArguments:`
-    PerformWithArguments,
 }
 
 /// The messages of classes (section 5.3.2).

@@ -46,6 +46,7 @@ fn is_operator_byte(byte: u8) -> bool
 }
 
 // Whether all bytes may go on with a name.
+#[tactic(auto, unfolding(st_code::specs::Texts::all_bytes))]
 fn are_name_bytes(text: &[u8]) -> bool
     ensures { result ≡ all_bytes continues text.now }
 {
@@ -58,6 +59,7 @@ fn are_name_bytes(text: &[u8]) -> bool
 }
 
 // Whether all bytes are those of operators.
+#[tactic(auto, unfolding(st_code::specs::Texts::all_bytes))]
 fn are_operator_bytes(text: &[u8]) -> bool
     ensures { result ≡ all_bytes is_operator text.now }
 {
@@ -70,6 +72,7 @@ fn are_operator_bytes(text: &[u8]) -> bool
 }
 
 // Whether keywords go on from here, where one has begun or not.
+#[tactic(auto, unfolding(st_code::specs::Texts::are_keywords))]
 fn go_on_as_keywords(begun: bool, text: &[u8]) -> bool
     ensures { result ≡ are_keywords begun text.now }
 {
@@ -121,6 +124,7 @@ fn is_operators_text(text: &[u8]) -> bool
 }
 
 // How many bytes of a text are this one.
+#[tactic(auto, unfolding(st_code::specs::Texts::count_byte))]
 fn count_of(byte: u8, text: &[u8]) -> usize
     ensures { result ≡ count_byte byte text.now }
 {
