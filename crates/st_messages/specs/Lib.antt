@@ -5,3 +5,4 @@ pub mod Levels
 pub mod Selectors
 pub mod Pieces
 pub mod Printed
+pub mod Numbers

@@ -1,6 +1,7 @@
 -- The rows of the table of built-in messages that these rows are.
-use Rattle.std.specs.Prelude.{ℕ}
-use Rattle.st_code.specs.Messages.{ObjectMessage, ClassMessage, BooleanMessage, NumberMessage, TranscriptMessage, BlockMessage, ExceptionMessage, CollectionMessage as CollectionRow, Row, Objects, Classes, Booleans, Numbers, Characters, Transcripts, Strings, Sequences, Collections, Blocks, Exceptions, Slots}
+use Rattle.std.specs.Prelude.{ℕ, List, map, Option, Some, None}
+use Rattle.st_code.specs.Messages.{ObjectMessage, ClassMessage, BooleanMessage, NumberMessage, TranscriptMessage, BlockMessage, ExceptionMessage, CollectionMessage as CollectionRow, Row, Objects, Classes, Booleans, Numbers, Characters, Transcripts, Strings, Sequences, Collections, Blocks, Exceptions, Loops, Slots}
+use Rattle.st_code.specs.BuiltIns.{BuiltInMessage, numbered_messages}
 use Rattle.st_collections.specs.declared.message.CollectionMessage.{CollectionMessage}
 use Rattle.st_collections.specs.declared.message.OfMaking.{OfMaking}
 use Rattle.st_collections.specs.declared.message.OfOrdered.{OfOrdered}
@@ -15,6 +16,7 @@ use Rattle.st_messages.specs.declared.row.OfBoolean.{OfBoolean}
 use Rattle.st_messages.specs.declared.row.OfNumber.{OfNumber}
 use Rattle.st_messages.specs.declared.row.OfTranscript.{OfTranscript}
 use Rattle.st_messages.specs.declared.row.OfBlock.{OfBlock}
+use Rattle.st_messages.specs.declared.row.OfSelector.{OfSelector}
 use Rattle.st_messages.specs.declared.row.OfException.{OfException}
 use Rattle.st_messages.specs.Replies.{control_row}
 
@@ -119,11 +121,13 @@ block_row OfBlock.OnDo = BlockMessage.OnDo
 block_row OfBlock.Ensure = BlockMessage.Ensure
 block_row OfBlock.IfCurtailed = BlockMessage.IfCurtailed
 
+abbrev pub selector_row : OfSelector → ExceptionMessage
+selector_row OfSelector.New = ExceptionMessage.New
+selector_row OfSelector.SignalNew = ExceptionMessage.SignalNew
+selector_row OfSelector.Join = ExceptionMessage.Join
+selector_row OfSelector.Handles = ExceptionMessage.Handles
+
 abbrev pub exception_row : OfException → ExceptionMessage
-exception_row OfException.New = ExceptionMessage.New
-exception_row OfException.SignalNew = ExceptionMessage.SignalNew
-exception_row OfException.Join = ExceptionMessage.Join
-exception_row OfException.Handles = ExceptionMessage.Handles
 exception_row OfException.Signal = ExceptionMessage.Signal
 exception_row OfException.SignalText = ExceptionMessage.SignalText
 exception_row OfException.MessageText = ExceptionMessage.MessageText
@@ -177,5 +181,20 @@ table_row (MessageRow.Number m) = Numbers (number_row m)
 table_row (MessageRow.Transcript m) = Transcripts (transcript_row m)
 table_row (MessageRow.Collection m) = collection_row m
 table_row (MessageRow.Block m) = Blocks (block_row m)
+table_row (MessageRow.Selector m) = Exceptions (selector_row m)
 table_row (MessageRow.Exception m) = Exceptions (exception_row m)
 table_row (MessageRow.Slot slot) = Slots slot
+
+-- the rows that are here
+abbrev pub at_once : Row → Option Row
+at_once (Objects ObjectMessage.Copy) = None
+at_once (Collections CollectionRow.AddAll) = None
+at_once (Loops m) = None
+at_once row = Some row
+
+abbrev row_at_once : BuiltInMessage → Option Row
+row_at_once m = at_once m.row
+
+-- those of all messages, by number
+unfoldable pub at_once_rows : List (Option Row)
+at_once_rows = map row_at_once numbered_messages

@@ -1,7 +1,8 @@
 -- Which exceptions a plain selector fits.
 use Rattle.std.specs.Prelude.{ℕ, Bool, true, false, List, [], ◌∷◌}
 use Rattle.object_heap.specs.declared.value.Value.{Value}
-use Rattle.object_heap.specs.declared.value.Value.TheVariants.{Class}
+use Rattle.object_heap.specs.declared.value.Value.TheVariants.{Class, Object}
+use Rattle.object_heap.specs.Store.{Store, object_at}
 use Rattle.st_code.specs.Program.{Program}
 use Rattle.st_code.specs.Lookup.{inherits}
 
@@ -12,3 +13,8 @@ fits_one p class _ = false
 abbrev pub fits_any : Program → ℕ → List Value → Bool
 fits_any p class [] = false
 fits_any p class (v ∷ vs) = elim (fits_one p class v) [ true ↦ true | false ↦ fits_any p class vs ]
+
+-- the classes of a plain selector
+abbrev pub selectors_in : Store → Value → List Value
+selectors_in s (Object number) = (object_at number s).slots
+selectors_in s v = v ∷ []

@@ -1,130 +1,94 @@
-// Messages of exceptions, their classes and ExceptionSets. A receiver of another kind answers nil.
+// Messages of exceptions. A receiver that is no object answers nil.
 ghost use Rattle.std.specs.Prelude.{◌≡◌, false, IsTrue};
 ghost use Rattle.object_heap.specs.declared.value.Value.{Value};
-ghost use Rattle.st_code.specs.Lookup.{fits, is_exception, is_plain};
 ghost use Rattle.st_code.specs.Messages.{ExceptionMessage};
-ghost use Rattle.st_collections.specs.Answers.{answer_of, is_out, memory_of, unless_out};
 ghost use Rattle.st_rules.specs.ExceptionRows.{exception_action};
 ghost use Rattle.st_messages.specs.Replies.{is_lost, memory_after, seen, told_by, unless_lost};
 ghost use Rattle.st_messages.specs.Rows.{exception_row};
-ghost use Rattle.st_messages.specs.Selectors.{fits_one};
 
 use crate::arguments::first_of;
-use crate::built_in::EXCEPTION;
+use crate::exception_texts::exception_pieces;
 use crate::facts::ProgramFacts;
-use crate::level::level_now;
-use crate::makers::new_blank;
 use crate::pieces::Piece;
-use crate::reply::{Passed, Reply, Written, answer, answer_trouble, answer_truth};
+use crate::reply::{Reply, Written, answer, answer_truth};
 use crate::row::OfException;
 use crate::texts::new_text;
-use object_heap::{Heap, Trouble, Value};
-use program_image::Found;
-use st_collections::Built;
+use object_heap::{Heap, Value};
 
-/// Whether a value answers `handles:` by a built-in message.
-#[tactic(auto, unfolding(st_code::specs::Lookup::is_plain))]
-pub(crate) fn is_plain_now<H: Heap, P: ProgramFacts>(heap: &H, program: &P, value: Value) -> bool
-    ensures { result ≡ is_plain (P.meaning program.now) (H.meaning heap.now).store value }
-{
-    let level = level_now(heap, value);
-    let selector = program.name_number(b"handles:");
-    match program.find(level.side, level.class, selector) {
-        Some(Found::BuiltIn(_)) => true,
-        _ => false,
-    }
-}
-
-/// Whether a value is an exception.
-#[tactic(auto, unfolding(st_code::specs::Lookup::is_exception))]
-pub(crate) fn is_exception_now<H: Heap, P: ProgramFacts>(
-    heap: &H,
+// `messageText`.
+#[tactic(auto, unfolding(st_rules::specs::ExceptionRows::exception_action, st_collections::specs::Kinds::slot_of, st_collections::specs::Kinds::slots_of, st_collections::specs::Actions::makes_string, st_collections::specs::Actions::makes_bytes))]
+fn message_text<H: Heap, P: ProgramFacts>(
+    heap: &mut H,
     program: &P,
-    value: Value,
-) -> bool
-    ensures { result ≡ is_exception (P.meaning program.now) (H.meaning heap.now).store value }
+    exception: u32,
+    arguments: &[Value],
+) -> Reply
+    ensures memory { H.meaning heap.new ≡ unless_lost result (H.meaning heap.old) (memory_after (exception_action (P.meaning program.now) (H.meaning heap.old).store ExceptionMessage.MessageText (Value.Object exception) arguments.now) (H.meaning heap.old)) }
+    ensures reply { let said = seen (P.meaning program.now) (H.meaning heap.old).store arguments.now result in said ≡ unless_lost result said (told_by (exception_action (P.meaning program.now) (H.meaning heap.old).store ExceptionMessage.MessageText (Value.Object exception) arguments.now) (H.meaning heap.old)) }
+    ensures reserved { IsTrue H.reserved → is_lost result ≡ false }
+    ensures literals { H.literal_room heap.new ≡ H.literal_room heap.old }
 {
-    match value {
-        Value::Object(object) => program.is_under(heap.class_of(object), EXCEPTION),
-        _ => false,
-    }
-}
-
-// Whether a value is an exception's class or one above it.
-fn fits_class<P: ProgramFacts>(program: &P, class: u32, value: Value) -> bool
-    ensures { result ≡ fits_one (P.meaning program.now) class value }
-{
-    match value {
-        Value::Class(ancestor) => program.is_under(class, ancestor),
-        _ => false,
-    }
-}
-
-// Whether one of the slots of an ExceptionSet is.
-fn fits_some<H: Heap, P: ProgramFacts>(heap: &H, program: &P, set: u32, class: u32) -> bool
-    ensures { result ≡ fits_any (P.meaning program.now) class (object_at set (H.meaning heap.now).store).slots }
-{
-    for place in 0..heap.length(set) {
-        if fits_class(program, class, heap.get(set, place)) {
-            return true;
+    let kept = heap.get(exception, 0);
+    match kept {
+        Value::Nil => {
+            let pieces = exception_pieces(heap, program, exception);
+            Reply::Answer(new_text(heap, program, &pieces))
         }
+        _ => answer(kept),
     }
-    false
 }
 
-/// Whether a plain selector is an exception's class or one above it, or is a set that has one.
-#[tactic(auto, unfolding(st_code::specs::Lookup::fits))]
-pub(crate) fn fits_now<H: Heap, P: ProgramFacts>(
-    heap: &H,
+// `description`.
+#[tactic(auto, unfolding(st_rules::specs::ExceptionRows::exception_action, st_collections::specs::Actions::makes_string, st_collections::specs::Actions::makes_bytes))]
+fn description<H: Heap, P: ProgramFacts>(
+    heap: &mut H,
     program: &P,
-    selector: Value,
-    class: u32,
-) -> bool
-    ensures { result ≡ fits (P.meaning program.now) (H.meaning heap.now).store selector class }
+    exception: u32,
+    arguments: &[Value],
+) -> Reply
+    ensures memory { H.meaning heap.new ≡ unless_lost result (H.meaning heap.old) (memory_after (exception_action (P.meaning program.now) (H.meaning heap.old).store ExceptionMessage.Description (Value.Object exception) arguments.now) (H.meaning heap.old)) }
+    ensures reply { let said = seen (P.meaning program.now) (H.meaning heap.old).store arguments.now result in said ≡ unless_lost result said (told_by (exception_action (P.meaning program.now) (H.meaning heap.old).store ExceptionMessage.Description (Value.Object exception) arguments.now) (H.meaning heap.old)) }
+    ensures reserved { IsTrue H.reserved → is_lost result ≡ false }
+    ensures literals { H.literal_room heap.new ≡ H.literal_room heap.old }
 {
-    match selector {
-        Value::Object(set) => fits_some(heap, program, set, class),
-        _ => fits_class(program, class, selector),
-    }
+    let class = heap.class_of(exception);
+    Reply::Answer(new_text(heap, program, &[Piece::ClassName(class)]))
 }
 
-// `handles:`.
+/// What an exception answers (section 5.5).
 #[tactic(auto, unfolding(st_rules::specs::ExceptionRows::exception_action))]
-fn handles<H: Heap, P: ProgramFacts>(
-    heap: &H,
+pub fn exception_message<H: Heap, P: ProgramFacts>(
+    heap: &mut H,
     program: &P,
+    message: OfException,
     receiver: Value,
     arguments: &[Value],
 ) -> Reply
-    ensures reply { seen (P.meaning program.now) (H.meaning heap.now).store arguments.now result ≡ told_by (exception_action (P.meaning program.now) (H.meaning heap.now).store ExceptionMessage.Handles receiver arguments.now) (H.meaning heap.now) }
-    ensures kept { memory_after (exception_action (P.meaning program.now) (H.meaning heap.now).store ExceptionMessage.Handles receiver arguments.now) (H.meaning heap.now) ≡ H.meaning heap.now }
-    ensures settled { is_lost result ≡ false }
-{
-    let argument = first_of(arguments);
-    let Value::Object(object) = argument else {
-        return answer_trouble(Trouble::ExceptionExpected);
-    };
-    if !is_exception_now(heap, program, argument) {
-        return answer_trouble(Trouble::ExceptionExpected);
-    }
-    answer_truth(fits_now(heap, program, receiver, heap.class_of(object)))
-}
-
-// `new` of an exception's class.
-#[tactic(auto, unfolding(st_rules::specs::ExceptionRows::exception_action))]
-fn new_exception<H: Heap, P: ProgramFacts>(
-    heap: &mut H,
-    program: &P,
-    receiver: Value,
-    arguments: &[Value],
-) -> Built
-    ensures memory { H.meaning heap.new ≡ unless_out result (H.meaning heap.old) (memory_of (exception_action (P.meaning program.now) (H.meaning heap.old).store ExceptionMessage.New receiver arguments.now) (H.meaning heap.old)) }
-    ensures answer { result ≡ unless_out result result (answer_of (exception_action (P.meaning program.now) (H.meaning heap.old).store ExceptionMessage.New receiver arguments.now) (H.meaning heap.old)) }
-    ensures reserved { IsTrue H.reserved → is_out result ≡ false }
+    ensures memory { H.meaning heap.new ≡ unless_lost result (H.meaning heap.old) (memory_after (exception_action (P.meaning program.now) (H.meaning heap.old).store (exception_row message) receiver arguments.now) (H.meaning heap.old)) }
+    ensures reply { let said = seen (P.meaning program.now) (H.meaning heap.old).store arguments.now result in said ≡ unless_lost result said (told_by (exception_action (P.meaning program.now) (H.meaning heap.old).store (exception_row message) receiver arguments.now) (H.meaning heap.old)) }
+    ensures reserved { IsTrue H.reserved → is_lost result ≡ false }
     ensures literals { H.literal_room heap.new ≡ H.literal_room heap.old }
 {
-    match receiver {
-        Value::Class(class) => new_blank(heap, class, program.slot_count(class) as u128, 0),
-        _ => Built::Value(Value::Nil),
+    let Value::Object(exception) = receiver else {
+        return answer(Value::Nil);
+    };
+    let argument = first_of(arguments);
+    match message {
+        OfException::Signal => Reply::Raises(exception),
+        OfException::SignalText => {
+            heap.put(exception, 0, argument);
+            Reply::Raises(exception)
+        }
+        OfException::MessageText => message_text(heap, program, exception, arguments),
+        OfException::SetMessageText => {
+            heap.put(exception, 0, argument);
+            answer(receiver)
+        }
+        OfException::Description => description(heap, program, exception, arguments),
+        OfException::Controls(control) => Reply::Controls(control, exception, argument),
+        OfException::IsResumable(resumable) => answer_truth(resumable),
+        OfException::TerminatesProgram => Reply::Terminates(receiver),
+        OfException::AnswersNil => answer(Value::Nil),
+        OfException::Warns => Reply::Writes(Written::Warning(exception), Value::Nil),
     }
 }

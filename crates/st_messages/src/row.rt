@@ -14,6 +14,7 @@ pub enum MessageRow {
     /// Of characters, strings and collections.
     Collection(CollectionMessage),
     Block(OfBlock),
+    Selector(OfSelector),
     Exception(OfException),
     /// Answers the receiver's slot at this place, from 0.
     Slot(u32),
@@ -162,17 +163,22 @@ pub enum OfBlock {
     IfCurtailed,
 }
 
-/// The messages of exceptions, their classes and ExceptionSets (section 5.5).
+/// The messages of exception classes and ExceptionSets (section 5.5).
 #[derive(Clone, Copy, Debug, PartialEq, Eq)]
-pub enum OfException {
-    /// `new` of the class
+pub enum OfSelector {
+    /// `new`
     New,
-    /// `signal` and `signal:` of the class
+    /// `signal` and `signal:`
     SignalNew,
     /// `,`
     Join,
     /// `handles:`
     Handles,
+}
+
+/// The messages of exceptions (section 5.5).
+#[derive(Clone, Copy, Debug, PartialEq, Eq)]
+pub enum OfException {
     /// `signal`
     Signal,
     /// `signal:`
