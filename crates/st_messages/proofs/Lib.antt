@@ -1,3 +1,6 @@
-pub mod Puts
+pub mod AtOnce
 pub mod Blanks
+pub mod CollectionsAtOnce
+pub mod NumberLaws
+pub mod Puts
 pub mod Texts

@@ -66,3 +66,49 @@ mutual
 pub gcd_is : (a b : ℕ) → rules.gcd a b ≡ gcd a b
 unfolding gcd
 gcd_is a b = steps_are a b ∙ within_is (suc b) a b
+
+abs_signed : (b : Bool) (n : ℕ) → nat_abs (signed b n) ≡ n
+abs_signed true zero = refl
+abs_signed true (suc n) = refl
+abs_signed false n = refl
+
+none_over : (g : ℕ) → 0 / g ≡ 0
+none_over g = zero-div g
+
+quotient_signed : (b : Bool) (n g : ℕ) → int_div (signed b n) (pos g) ≡ signed b (n / g)
+quotient_signed true zero g = rw (none_over g) refl
+quotient_signed true (suc n) g = refl
+quotient_signed false n g = refl
+
+pub reduced_is : (s : Store) (r a d : Value) (b : Bool) (n k : ℕ) → gives_ratio s (rules.reduced (signed b n) k) ≡ answer_action s r a d (quotient_answer b n k)
+unfolding rules.reduced
+reduced_is s r a d b n k = rw (abs_signed b n, gcd_is n k, quotient_signed b n (gcd n k)) (ratio_is s r a d (signed b (n / gcd n k)) (k / gcd n k))
+
+-- ---- products and quotients
+
+not_negative : (n : ℕ) → is_negative (pos n) ≡ false
+not_negative n = leb-suc-zero n
+
+differ_by : Bool → Bool → Bool
+differ_by b c = if b then not c else c
+
+differ_is : (x y : ℤ) → differ x y ≡ differ_by (is_negative x) (is_negative y)
+unfolding differ_by
+differ_is x y = refl
+
+signs : (b c : Bool) → Bool
+signs b c = differ_by b c
+
+pub product_signed : (x y : ℤ) → x *ℤ y ≡ signed (differ x y) (nat_abs x * nat_abs y)
+product_signed (pos a) (pos b) = rw (not_negative a, not_negative b) refl
+product_signed (pos a) (negsuc b) = rw (not_negative a) refl
+product_signed (negsuc a) (pos b) = rw (not_negative b) refl
+product_signed (negsuc a) (negsuc b) = refl
+
+pub product_is : (s : Store) (r a d : Value) (x y : ℤ) (k l : ℕ) → gives_ratio s (rules.product_of (record { over = x; under = k }) (record { over = y; under = l })) ≡ answer_action s r a d (quotient_answer (differ x y) (nat_abs x * nat_abs y) (k * l))
+unfolding rules.product_of
+product_is s r a d x y k l = rw (product_signed x y) (reduced_is s r a d (differ x y) (nat_abs x * nat_abs y) (k * l))
+
+negated : (n : ℕ) → 0 < n → neg_ℤ (pos n) ≡ negsuc (n - 1)
+negated zero h = absurd (omega arith)
+negated (suc n) h = let e : suc n - 1 ≡ n = omega arith in rw e refl
