@@ -6,6 +6,7 @@ mod blocks;
 mod booleans;
 mod built_in;
 mod classes;
+mod collections;
 mod exception_texts;
 mod exceptions;
 mod facts;
