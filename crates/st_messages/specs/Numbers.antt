@@ -1,5 +1,5 @@
 -- Numbers as values, and what their answers do.
-use Rattle.std.specs.Prelude.{◌≡◌, ℕ, ℤ, pos, [], ◌∷◌, Option, Some, None}
+use Rattle.std.specs.Prelude.{◌≡◌, pos, [], ◌∷◌, Option, Some, None, nat_eq, if◌then◌else◌}
 use Rattle.object_heap.specs.declared.value.Value.{Value}
 use Rattle.object_heap.specs.declared.value.Value.TheVariants.{Integer, Object}
 use Rattle.object_heap.specs.declared.trouble.Trouble.TheVariants.{ZeroDivide}
@@ -18,6 +18,12 @@ use Rattle.st_rules.specs.Numbers.{Ratio, whole}
 abbrev pub IsNumeric : Store → Value → Type 0
 IsNumeric s (Object n) = (object_at n s).class ≡ fraction_class → IsProper (Number.Fraction (integer_of (slot_at n 0 s)) (integer_of (slot_at n 1 s)))
 IsNumeric s v = Unit {0}
+
+-- the number that a value is
+abbrev pub number_in : Store → Value → Option Number
+number_in s (Integer n) = Some (Number.Integer n)
+number_in s (Object n) = if nat_eq (object_at n s).class fraction_class then Some (Number.Fraction (integer_of (slot_at n 0 s)) (integer_of (slot_at n 1 s))) else None
+number_in s v = None
 
 -- a number as the rules see it
 abbrev pub seen_ratio : Number → Ratio

@@ -1,10 +1,10 @@
 // Messages of Integers and Fractions. A receiver that is no number counts as 0.
 ghost use Rattle.std.specs.Prelude.{◌≡◌, false, IfSome, IsTrue};
-ghost use Rattle.std.specs.Option.{option_map};
 ghost use Rattle.st_numbers.specs.Numbers.{IsProper, IsProperArgument, numerator_of};
 ghost use Rattle.st_collections.specs.Actions.{first};
-ghost use Rattle.st_rules.specs.NumberRows.{number_action, ratio_of};
-ghost use Rattle.st_messages.specs.Numbers.{IsNumeric, answer_action, argument_as, asked_as, dividend_of, kept_as, number_or_zero, seen_ratio};
+ghost use Rattle.st_collections.specs.Kinds.{integer_of};
+ghost use Rattle.st_rules.specs.NumberRows.{number_action};
+ghost use Rattle.st_messages.specs.Numbers.{IsNumeric, answer_action, argument_as, asked_as, dividend_of, kept_as, number_in};
 ghost use Rattle.st_messages.specs.Replies.{is_lost, memory_after, seen, told_by, unless_lost};
 ghost use Rattle.st_messages.specs.Rows.{plain_row};
 
@@ -27,10 +27,9 @@ fn integer_in(value: Value) -> i128
 }
 
 // The number that a value is.
-#[tactic(auto, unfolding(st_rules::specs::NumberRows::ratio_of, st_collections::specs::Kinds::is_a, st_collections::specs::Kinds::slot_of, st_collections::specs::Kinds::slots_of))]
 fn number_now<H: Heap>(heap: &H, value: Value) -> Option<Number>
     requires { IsNumeric (H.meaning heap.now).store value }
-    ensures number { option_map seen_ratio result ≡ ratio_of (H.meaning heap.now).store value }
+    ensures number { result ≡ number_in (H.meaning heap.now).store value }
     ensures proper { IfSome result (λ number. IsProper number) }
 {
     match value {
