@@ -1,5 +1,5 @@
 -- The messages to characters, strings and collections begin nothing.
-use Rattle.std.proofs.Common.{◌≡◌, ℕ, ◌+◌, ◌-◌, Bool, true, false, not, List, [], ◌∷◌, ◌++◌, length, get_or, replicate, Option, Some, None, nat_eq, nat_le, refl, if◌then◌else◌}
+use Rattle.std.proofs.Common.{◌≡◌, ℕ, ◌+◌, ◌-◌, ◌^◌, Bool, true, false, not, ◌&&◌, nat_lt, List, [], ◌∷◌, ◌++◌, length, get_or, replicate, Option, Some, None, nat_eq, nat_le, refl, if◌then◌else◌}
 use Rattle.std.specs.Prelude.{ℤ, pos, negsuc, int_lt, nat_abs}
 use Rattle.object_heap.specs.declared.trouble.Trouble.{Trouble}
 use Rattle.object_heap.specs.declared.value.Value.{Value}
@@ -7,14 +7,14 @@ use Rattle.object_heap.specs.declared.value.Value.TheVariants.{Nil, True, False,
 use Rattle.object_heap.specs.Store.{Store, Object as HeapObject, object_at}
 use Rattle.st_code.specs.Program.{Program}
 use Rattle.st_code.specs.Texts.{Text}
-use Rattle.st_code.specs.BuiltIns.{symbol_class, string_class, byte_array_class}
+use Rattle.st_code.specs.BuiltIns.{symbol_class, string_class, byte_array_class, interval_class}
 use Rattle.st_code.specs.Messages.{CharacterMessage, StringMessage, SequenceMessage, ObjectMessage, CollectionMessage as CollectionRow}
-use Rattle.st_collections.specs.Actions.{Action, Gives, Changes, Fails, Makes, first, second, makes_slots, makes_bytes, makes_string}
+use Rattle.st_collections.specs.Actions.{Action, Gives, Changes, Fails, Makes, PassesIntegers, first, second, makes_slots, makes_bytes, makes_string}
 use Rattle.st_collections.specs.AtOnce.{action_of, character_row, string_row, sequence_row, making_action, pair_action, ordered_action}
 use Rattle.st_collections.specs.IntervalRows.{interval, interval_by, to_action, to_by_action, with_integer}
-use Rattle.st_collections.specs.Kinds.{bytes_of, element, elements, integer_of, interval_size, is_collection, is_sequence, size_of, some_elements, species}
+use Rattle.st_collections.specs.Kinds.{bytes_of, element, elements, integer_of, interval_size, is_collection, natural_of, is_sequence, size_of, some_elements, species}
 use Rattle.st_collections.specs.ObjectRows.{indexed, index_in, byte_value, byte_put, sized, object_action}
-use Rattle.st_collections.specs.SequenceRows.{adds, at_put, changed, collection_action, copy_between, copy_from_to, element_trouble, join, makes_sequence, ordered_at, sequence_action, unless_empty, written}
+use Rattle.st_collections.specs.SequenceRows.{adds, at_put, changed, collection_action, copy_between, copy_from_to, element_trouble, is_index, join, makes_sequence, ordered_at, sequence_action, unless_empty, written}
 use Rattle.st_collections.specs.TextRows.{character_action, from_code_point, new_string, or_empty, string_action, string_at, with_character, with_text}
 use Rattle.st_collections.specs.declared.message.CollectionMessage.{CollectionMessage}
 use Rattle.st_collections.specs.declared.message.OfCharacter.{OfCharacter}
@@ -220,7 +220,9 @@ join_once p s r v =
 
 between_once : (p : Program) (s : Store) (r : Value) (i j : ℤ) → is_at_once (copy_between p s r i j) ≡ true
 between_once p s r i j =
-    either (int_lt j i) _ _ (sequence_once (species s r) [] s) (either _ _ _ (sequence_once (species s r) _ s) refl)
+    let part = makes_sequence (species s r) (some_elements p s r (natural_of i) (natural_of j + 1 - natural_of i)) s in
+    let inside = is_index (size_of p s r) i && is_index (size_of p s r) j in
+    either (int_lt j i) (makes_sequence (species s r) [] s) (if inside then part else Fails Trouble.IndexOutOfRange) (sequence_once (species s r) [] s) (either inside part (Fails Trouble.IndexOutOfRange) (sequence_once (species s r) (some_elements p s r (natural_of i) (natural_of j + 1 - natural_of i)) s) refl)
 
 part_once : (p : Program) (s : Store) (r v w : Value) → is_at_once (copy_from_to p s r v w) ≡ true
 part_once p s r (Integer i) (Integer j) = between_once p s r i j
@@ -261,7 +263,9 @@ sequences_once p s OfSequence.AtPut r args = at_put_once p s r (first args) (sec
 -- ---- makers, pairs and OrderedCollections
 
 interval_once : (s : Store) (i j by : ℤ) → is_at_once (interval s i j by) ≡ true
-interval_once s i j by = either _ _ _ (slots_once _ _ s) refl
+interval_once s i j by =
+    let made = makes_slots interval_class (Integer i ∷ Integer j ∷ Integer by ∷ []) s in
+    either (nat_lt (interval_size i j by) (2 ^ 127)) made PassesIntegers (slots_once interval_class (Integer i ∷ Integer j ∷ Integer by ∷ []) s) refl
 
 interval_by_once : (s : Store) (i j by : ℤ) → is_at_once (interval_by s i j by) ≡ true
 interval_by_once s i j by = either (nat_eq (nat_abs by) 0) _ _ refl (interval_once s i j by)

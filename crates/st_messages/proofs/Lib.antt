@@ -1,7 +1,10 @@
 pub mod AtOnce
 pub mod Blanks
 pub mod CollectionsAtOnce
+pub mod KindLaws
+pub mod MissedTexts
+pub mod NewTexts
 pub mod NumberLaws
-pub mod Printed
+pub mod PerformLaws
 pub mod Puts
-pub mod Texts
+pub mod SlotPuts

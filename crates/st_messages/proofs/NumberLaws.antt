@@ -2,6 +2,8 @@
 use Rattle.std.proofs.Common.{◌≡◌, ℕ, zero, suc, ◌+◌, ◌-◌, ◌*◌, ◌/◌, ◌%◌, ◌^◌, ◌<◌, ◌≤◌, Bool, true, false, not, ◌&&◌, [], ◌∷◌, nat_eq, refl, ap, sym, ◌∙◌, arith, if◌then◌else◌}
 use Rattle.std.specs.Prelude.{ℤ, pos, negsuc, ◌+ℤ◌, ◌-ℤ◌, ◌*ℤ◌, neg_ℤ, nat_abs, int_div, int_rem, int_lt, int_le}
 use Rattle.std.specs.Int.{is_negative}
+use Rattle.std.proofs.Math.Nat.{zero-div}
+use Rattle.std.proofs.Math.Dec.{leb-suc-zero}
 use Rattle.object_heap.specs.declared.value.Value.{Value}
 use Rattle.object_heap.specs.declared.value.Value.TheVariants.{Integer}
 use Rattle.object_heap.specs.Store.{Store}
@@ -54,8 +56,9 @@ unfolding rules.gcd
 steps_are a b = refl
 
 mutual
-  within_is : (n a b : ℕ) → steps n a b ≡ gcd_within n a b
   unfolding gcd_within
+
+  within_is : (n a b : ℕ) → steps n a b ≡ gcd_within n a b
   within_is zero a b = refl
   within_is (suc n) a b = within_by (nat_eq b 0) n a b
 

@@ -1,5 +1,6 @@
 -- Bytes that are written into an object one after another.
 use Rattle.std.proofs.Common.{◌≡◌, ◌≢◌, ℕ, zero, suc, ◌+◌, ◌-◌, ◌<◌, ◌≤◌, Bool, true, false, List, [], ◌∷◌, ◌++◌, length, get_or, drop, replicate, nat_eq, refl, ap, sym, ◌∙◌, arith, add-one, add-zero}
+use Rattle.std.proofs.lemmas.Bool.{ne_eqb}
 use Rattle.std.proofs.lemmas.List.{append_assoc, append-nil, drop_all, drop_more, get_or-set_other, length-append, set_at}
 use Rattle.object_heap.specs.declared.value.Value.{Value}
 use Rattle.object_heap.specs.Store.{Store, Object, no_object, object_at, object_added, with_byte, byte_written, byte_at}
@@ -58,6 +59,39 @@ pub doubled_more : (b : ℕ) (t : Text) → quotes_doubled (b ∷ t) ≡ quotes_
 unfolding quotes_doubled
 doubled_more b t = doubled_step (nat_eq b 39) b t
 
+pub doubled_length : (bytes : Text) (i : ℕ) → i < length bytes → length (quotes_doubled (drop i bytes)) ≡ length (quotes_doubled (get_or bytes i 0 ∷ [])) + length (quotes_doubled (drop (i + 1) bytes))
+doubled_length bytes i h =
+    ap (λ (t : Text). length (quotes_doubled t)) (drop_more bytes i 0 h)
+    ∙ (ap (λ (t : Text). length t) (doubled_more (get_or bytes i 0) (drop (i + 1) bytes)) ∙ length-append (quotes_doubled (get_or bytes i 0 ∷ [])) (quotes_doubled (drop (i + 1) bytes)))
+
+pub doubled_put : (bytes : Text) (number at at' i : ℕ) (m m' : Memory) → i < length bytes → m' ≡ put number at (quotes_doubled (get_or bytes i 0 ∷ [])) m → at' ≡ at + length (quotes_doubled (get_or bytes i 0 ∷ []))
+    → put number at' (quotes_doubled (drop (i + 1) bytes)) m' ≡ put number at (quotes_doubled (drop i bytes)) m
+doubled_put bytes number at at' i m m' h e a =
+    rw (e, a)
+    (sym (ap (λ (t : Text). put number at (quotes_doubled t) m) (drop_more bytes i 0 h)
+    ∙ (ap (λ (t : Text). put number at t m) (doubled_more (get_or bytes i 0) (drop (i + 1) bytes))
+    ∙ put_both number at (quotes_doubled (get_or bytes i 0 ∷ [])) (quotes_doubled (drop (i + 1) bytes)) m)))
+
+pub doubled_none : (bytes : Text) (i : ℕ) → length bytes ≤ i → quotes_doubled (drop i bytes) ≡ []
+unfolding quotes_doubled
+doubled_none bytes i h = rw (drop_all i bytes h) refl
+
+pub put_quote : (number at b : ℕ) (m m1 m2 : Memory) → b ≡ 39 → m1 ≡ with_store (with_byte number at b m.store) m → m2 ≡ with_store (with_byte number (at + 1) b m1.store) m1 → m2 ≡ put number at (quotes_doubled (b ∷ [])) m
+unfolding quotes_doubled bytes_put
+put_quote number at b m m1 m2 q e e2 = rw (e2, e, q, add-one at) refl
+
+other_byte : (t : Bool) (b : ℕ) → t ≡ false → (elim t [ true ↦ 39 ∷ 39 ∷ [] | false ↦ b ∷ [] ]) ≡ b ∷ []
+other_byte true b h = cc
+other_byte false b h = refl
+
+pub single : (b : ℕ) → b ≢ 39 → quotes_doubled (b ∷ []) ≡ b ∷ []
+unfolding quotes_doubled
+single b h = other_byte (nat_eq b 39) b (ne_eqb b 39 h)
+
+pub put_other : (number at b : ℕ) (m m1 : Memory) → b ≢ 39 → m1 ≡ with_store (with_byte number at b m.store) m → m1 ≡ put number at (quotes_doubled (b ∷ [])) m
+unfolding bytes_put
+put_other number at b m m1 h e = rw (single b h) e
+
 -- ---- the object added last
 
 byte_last : (o : Object) (k b : ℕ) (s : Store) → with_byte (length s.objects) k b (object_added o s) ≡ object_added (byte_written k b o) s
@@ -66,11 +100,11 @@ byte_last o k b s = rw (last_object o s) (last_set o (byte_written k b o) s)
 pub put_last : (t : Text) (done : Text) (left class : ℕ) (s : Store)
     → bytes_put (length s.objects) (length done) t (object_added (new_object class [] (done ++ replicate (length t + left) 0)) s) ≡ object_added (new_object class [] (done ++ t ++ replicate left 0)) s
 unfolding bytes_put
-put_last [] done left class s = rw (append-nil done) refl
+put_last [] done left class s = let e : 0 + left ≡ left = omega arith in rw (e, append-nil done) refl
 put_last (b ∷ t) done left class s =
     let more : suc (length t) + left ≡ suc (length t + left) = omega arith in
     let zeros : Text = replicate (length t + left) 0 in
     let behind : length (done ++ b ∷ []) ≡ suc (length done) = omega (arith, length-append done (b ∷ [])) in
     let first : with_byte (length s.objects) (length done) b (object_added (new_object class [] (done ++ replicate (suc (length t) + left) 0)) s) ≡ object_added (new_object class [] ((done ++ b ∷ []) ++ zeros)) s
     = rw more (byte_last (new_object class [] (done ++ 0 ∷ zeros)) (length done) b s ∙ ap (λ (bytes : Text). object_added (new_object class [] bytes) s) (set_at done 0 zeros b (length done) refl ∙ sym (append_assoc done (b ∷ []) zeros))) in
-    ap (λ (u : Store). bytes_put (length s.objects) (suc (length done)) t u) first ∙ ((rw behind at put_last t (done ++ b ∷ []) left class s) ∙ ap (λ (x : Text). object_added (new_object class [] (x ++ replicate left 0)) s) (append_assoc done (b ∷ []) t))
+    ap (λ (u : Store). bytes_put (length s.objects) (suc (length done)) t u) first ∙ ((rw behind at (put_last t (done ++ b ∷ []) left class s)) ∙ ap (λ (x : Text). object_added (new_object class [] (x ++ replicate left 0)) s) (append_assoc done (b ∷ []) t))

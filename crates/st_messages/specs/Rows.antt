@@ -36,7 +36,6 @@ question_row OfQuestion.Yourself = ObjectMessage.Yourself
 
 abbrev pub object_row : OfObject → ObjectMessage
 object_row (OfObject.Question m) = question_row m
-object_row OfObject.Copy = ObjectMessage.Copy
 object_row OfObject.PrintString = ObjectMessage.PrintString
 object_row OfObject.DisplayString = ObjectMessage.DisplayString
 object_row OfObject.Size = ObjectMessage.Size

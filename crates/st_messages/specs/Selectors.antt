@@ -1,5 +1,5 @@
 -- Which exceptions a plain selector fits.
-use Rattle.std.specs.Prelude.{ℕ, Bool, true, false, List, [], ◌∷◌}
+use Rattle.std.specs.Prelude.{◌≢◌, ℕ, Bool, true, false, List, [], ◌∷◌}
 use Rattle.object_heap.specs.declared.value.Value.{Value}
 use Rattle.object_heap.specs.declared.value.Value.TheVariants.{Class, Object}
 use Rattle.object_heap.specs.Store.{Store, object_at}
@@ -18,3 +18,8 @@ fits_any p class (v ∷ vs) = elim (fits_one p class v) [ true ↦ true | false 
 abbrev pub selectors_in : Store → Value → List Value
 selectors_in s (Object number) = (object_at number s).slots
 selectors_in s v = v ∷ []
+
+-- a value isn't this object
+abbrev pub IsOther : ℕ → Value → Type 0
+IsOther number (Object set) = set ≢ number
+IsOther number v = Unit {0}

@@ -61,7 +61,7 @@ fn missed_pieces<P: ProgramFacts>(program: &P, class: Value, selector: Value) ->
     match selector {
         Value::Symbol(symbol) => {
             let mark = Piece::Byte(b'#');
-            if is_bare(name_of(program.names(), symbol)) {
+            if is_bare(name_of(program, symbol)) {
                 return [
                     name,
                     suffix,

@@ -24,6 +24,7 @@ mod row;
 mod selectors;
 mod slots;
 mod spelling;
+mod table;
 mod texts;
 mod transcripts;
 mod values;

@@ -114,17 +114,17 @@ fn dividend(message: NumberMessage, receiver: Value) -> Value
 fn reply_of<H: Heap, P: ProgramFacts>(
     heap: &mut H,
     program: &P,
-    said: NumberAnswer,
+    answered: NumberAnswer,
     receiver: Value,
     dividend: Value,
     arguments: &[Value],
 ) -> Reply
-    ensures memory { H.meaning heap.new ≡ unless_lost result (H.meaning heap.old) (memory_after (answer_action (H.meaning heap.old).store receiver (first arguments.now) dividend said) (H.meaning heap.old)) }
-    ensures reply { let said = seen (P.meaning program.now) (H.meaning heap.old).store arguments.now result in said ≡ unless_lost result said (told_by (answer_action (H.meaning heap.old).store receiver (first arguments.now) dividend said) (H.meaning heap.old)) }
+    ensures memory { H.meaning heap.new ≡ unless_lost result (H.meaning heap.old) (memory_after (answer_action (H.meaning heap.old).store receiver (first arguments.now) dividend answered) (H.meaning heap.old)) }
+    ensures reply { let said = seen (P.meaning program.now) (H.meaning heap.old).store arguments.now result in said ≡ unless_lost result said (told_by (answer_action (H.meaning heap.old).store receiver (first arguments.now) dividend answered) (H.meaning heap.old)) }
     ensures reserved { IsTrue H.reserved → is_lost result ≡ false }
     ensures literals { H.literal_room heap.new ≡ H.literal_room heap.old }
 {
-    match said {
+    match answered {
         NumberAnswer::Value(value) => answer(value),
         NumberAnswer::Fraction(over, under) => Reply::Answer(new_fraction(heap, over, under)),
         NumberAnswer::Receiver => answer(receiver),

@@ -76,7 +76,6 @@ pub fn object_message<H: Heap, P: ProgramFacts>(
 {
     match message {
         OfObject::Question(m) => question(heap, program, m, receiver, arguments),
-        OfObject::Copy => copy(heap, program, receiver, arguments),
         OfObject::PrintString => print(heap, program, receiver, arguments),
         OfObject::DisplayString => display(heap, program, receiver, arguments),
         OfObject::Size => size(heap, program, receiver, arguments),

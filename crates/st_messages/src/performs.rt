@@ -26,7 +26,7 @@ pub(crate) fn perform<H: Heap, P: ProgramFacts>(
     let Value::Symbol(name) = first_of(arguments) else {
         return answer_trouble(Trouble::SymbolExpected);
     };
-    if arity_of(name_of(program.names(), name)) == arguments.len().saturating_sub(1) {
+    if arity_of(name_of(program, name)) == arguments.len().saturating_sub(1) {
         return Reply::Sends(name, receiver, Passed::Behind);
     }
     answer_trouble(Trouble::WrongNumberOfArguments)
@@ -51,7 +51,7 @@ pub(crate) fn perform_with<H: Heap, P: ProgramFacts>(
     if !is_array(heap, array) {
         return answer_trouble(Trouble::CollectionExpected);
     }
-    if arity_of(name_of(program.names(), name)) as u64 == slots_now(heap, array) as u64 {
+    if arity_of(name_of(program, name)) as u64 == slots_now(heap, array) as u64 {
         return Reply::Sends(name, receiver, Passed::SlotsOf(array));
     }
     answer_trouble(Trouble::WrongNumberOfArguments)

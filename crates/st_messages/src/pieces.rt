@@ -157,30 +157,34 @@ fn put_decimal<H: Heap>(heap: &mut H, object: u32, at: u32, number: i128) -> u32
 }
 
 fn decimal_length(number: i128) -> u128
-    ensures { result ≡ length (signed_decimal number) }
+    ensures length { result ≡ length (signed_decimal number) }
+    ensures small { result < 2 ^ 65 }
 {
     let mut buffer = Buffer::new();
     buffer.format(number).len() as u128
 }
 
-// How many of the bytes are quotes.
+// How many bytes there are where each quote is doubled.
 #[tactic(auto, unfolding(st_code::specs::Texts::quotes_doubled))]
-fn quotes_in(bytes: &[u8]) -> u128
-    ensures { result + length bytes.now ≡ length (quotes_doubled bytes.now) }
+fn doubled_length(bytes: &[u8]) -> u128
+    ensures length { result ≡ length (quotes_doubled bytes.now) }
+    ensures small { result < 2 ^ 65 }
 {
+    let size = bytes.len() as u128;
     let mut quotes = 0;
     for byte in bytes {
         if *byte == b'\'' {
             quotes += 1;
         }
     }
-    quotes
+    size + quotes
 }
 
-// How many bytes of an object are quotes.
+// How many bytes an object has where each quote is doubled.
 #[tactic(auto, unfolding(st_code::specs::Texts::quotes_doubled))]
-fn quotes_in_object<H: Heap>(heap: &H, object: u32) -> u128
-    ensures { result + length (object_at object (H.meaning heap.now).store).bytes ≡ length (quotes_doubled (object_at object (H.meaning heap.now).store).bytes) }
+fn doubled_length_of<H: Heap>(heap: &H, object: u32) -> u128
+    ensures length { result ≡ length (quotes_doubled (object_at object (H.meaning heap.now).store).bytes) }
+    ensures small { result < 2 ^ 65 }
 {
     let count = heap.byte_length(object);
     let mut quotes = 0;
@@ -189,7 +193,7 @@ fn quotes_in_object<H: Heap>(heap: &H, object: u32) -> u128
             quotes += 1;
         }
     }
-    quotes
+    count as u128 + quotes
 }
 
 /// How many bytes a piece has.
@@ -203,15 +207,10 @@ pub fn piece_length<H: Heap, P: ProgramFacts>(heap: &H, program: &P, piece: Piec
         Piece::Words(words) => words_of(words).len() as u128,
         Piece::Decimal(number) => decimal_length(number),
         Piece::ClassName(class) => program.class_name(class).len() as u128,
-        Piece::Name(name) => name_of(program.names(), name).len() as u128,
-        Piece::DoubledName(name) => {
-            let text = name_of(program.names(), name);
-            quotes_in(text) + text.len() as u128
-        }
+        Piece::Name(name) => name_of(program, name).len() as u128,
+        Piece::DoubledName(name) => doubled_length(name_of(program, name)),
         Piece::Bytes(object) => heap.byte_length(object) as u128,
-        Piece::DoubledBytes(object) => {
-            quotes_in_object(heap, object) + heap.byte_length(object) as u128
-        }
+        Piece::DoubledBytes(object) => doubled_length_of(heap, object),
     }
 }
 
@@ -235,10 +234,8 @@ pub fn put_piece<H: Heap, P: ProgramFacts>(
         Piece::Words(words) => put_bytes(heap, object, at, words_of(words)),
         Piece::Decimal(number) => put_decimal(heap, object, at, number),
         Piece::ClassName(class) => put_bytes(heap, object, at, program.class_name(class)),
-        Piece::Name(name) => put_bytes(heap, object, at, name_of(program.names(), name)),
-        Piece::DoubledName(name) => {
-            put_doubled(heap, object, at, name_of(program.names(), name))
-        }
+        Piece::Name(name) => put_bytes(heap, object, at, name_of(program, name)),
+        Piece::DoubledName(name) => { put_doubled(heap, object, at, name_of(program, name)) }
         Piece::Bytes(from) => put_bytes_of(heap, object, at, from),
         Piece::DoubledBytes(from) => put_doubled_of(heap, object, at, from),
     }

@@ -1,9 +1,9 @@
 // How values and exceptions are written.
-ghost use Rattle.std.specs.Prelude.{◌≡◌, ◌++◌, false, IsTrue};
+ghost use Rattle.std.specs.Prelude.{◌≡◌, ◌++◌, codes, false, IsTrue};
 ghost use Rattle.object_heap.specs.declared.value.Value.{Value};
 ghost use Rattle.object_heap.specs.Store.{Store};
 ghost use Rattle.st_code.specs.Program.{name_at};
-ghost use Rattle.st_code.specs.Texts.{symbol_text, with_article};
+ghost use Rattle.st_code.specs.Texts.{holds_byte, symbol_text, with_article};
 ghost use Rattle.st_collections.specs.Actions.{makes_string};
 ghost use Rattle.st_collections.specs.Answers.{answer_of, is_out, memory_of, unless_out};
 ghost use Rattle.st_collections.specs.Kinds.{integer_of, print_text};
@@ -31,7 +31,7 @@ fn integer_in(value: Value) -> i128
 fn symbol_pieces<P: ProgramFacts>(program: &P, name: u32) -> [Piece; 4]
     ensures { result ≡ printed.symbol_pieces (printed.is_bare (name_at (P.meaning program.now) name)) name }
 {
-    if is_bare(name_of(program.names(), name)) {
+    if is_bare(name_of(program, name)) {
         return [
             Piece::Nothing,
             Piece::Nothing,
@@ -47,13 +47,26 @@ fn symbol_pieces<P: ProgramFacts>(program: &P, name: u32) -> [Piece; 4]
     ]
 }
 
+#[tactic(auto, unfolding(st_code::specs::Texts::holds_byte))]
+fn is_vowel(byte: u8) -> bool
+    ensures { result ≡ holds_byte (codes "AEIOU") byte }
+{
+    matches!(byte, b'A' | b'E' | b'I' | b'O' | b'U')
+}
+
 // The article of a name.
+#[tactic(auto, unfolding(st_code::specs::Texts::with_article))]
 fn article(name: &[u8]) -> Words
     ensures { words_text result ++ name.now ≡ with_article name.now }
 {
-    match name {
-        [b'A' | b'E' | b'I' | b'O' | b'U', ..] => Words::An,
-        _ => Words::A,
+    match name.split_first() {
+        Some((first, _)) => {
+            if is_vowel(*first) {
+                return Words::An;
+            }
+            Words::A
+        }
+        None => Words::A,
     }
 }
 

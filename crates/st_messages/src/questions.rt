@@ -2,21 +2,41 @@
 ghost use Rattle.std.specs.Prelude.{◌≡◌, false};
 ghost use Rattle.st_code.specs.Messages.{ObjectMessage};
 ghost use Rattle.st_collections.specs.ObjectRows.{object_action};
+ghost use Rattle.st_messages.specs.Levels.{kind_at, seen_level};
 ghost use Rattle.st_messages.specs.Replies.{is_lost, memory_after, seen, told_by};
 ghost use Rattle.st_messages.specs.Rows.{question_row};
 
 use crate::arguments::first_of;
 use crate::built_in::{CLASS, METACLASS, OBJECT};
 use crate::facts::ProgramFacts;
-use crate::level::{class_now, level_now};
+use crate::level::{Level, class_now, level_now};
 use crate::reply::{Reply, answer, answer_trouble, answer_truth};
 use crate::row::OfQuestion;
 use crate::values::{is_same, is_text};
 use object_heap::{Heap, Trouble, Value};
 use program_image::Side;
 
-// `isKindOf:`, of a receiver whose lookup begins at this level.
-#[tactic(auto, unfolding(st_collections::specs::ObjectRows::object_action, st_code::specs::Lookup::walk, st_code::specs::Lookup::inherits))]
+// Whether what has this level is of a class or metaclass, or of one above it.
+fn is_kind<P: ProgramFacts>(program: &P, level: Level, class: Value) -> bool
+    ensures { result ≡ kind_at (P.meaning program.now) (seen_level level) class }
+{
+    match class {
+        Value::Class(class) => match level.side {
+            Side::Instance => program.is_under(level.class, class),
+            Side::Class => CLASS == class || OBJECT == class,
+            Side::Meta => METACLASS == class || OBJECT == class,
+        },
+        Value::Meta(class) => match level.side {
+            Side::Instance => false,
+            Side::Class => program.is_under(level.class, class),
+            Side::Meta => false,
+        },
+        _ => false,
+    }
+}
+
+// `isKindOf:`.
+#[tactic(auto, unfolding(st_collections::specs::ObjectRows::object_action))]
 fn is_kind_of<H: Heap, P: ProgramFacts>(
     heap: &H,
     program: &P,
@@ -28,15 +48,7 @@ fn is_kind_of<H: Heap, P: ProgramFacts>(
     ensures settled { is_lost result ≡ false }
 {
     let level = level_now(heap, receiver);
-    match (first_of(arguments), level.side) {
-        (Value::Class(class), Side::Instance) => {
-            answer_truth(program.is_under(level.class, class))
-        }
-        (Value::Class(class), Side::Class) => answer_truth(class == CLASS || class == OBJECT),
-        (Value::Class(class), Side::Meta) => answer_truth(class == METACLASS || class == OBJECT),
-        (Value::Meta(class), Side::Class) => answer_truth(program.is_under(level.class, class)),
-        _ => answer_truth(false),
-    }
+    answer_truth(is_kind(program, level, first_of(arguments)))
 }
 
 // `respondsTo:`.

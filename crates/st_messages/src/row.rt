@@ -25,8 +25,6 @@ pub enum MessageRow {
 pub enum OfObject {
     /// What it is.
     Question(OfQuestion),
-    /// `copy`
-    Copy,
     /// `printString`
     PrintString,
     /// `displayString`

@@ -1,11 +1,11 @@
 // The forms of selectors and symbols.
-ghost use Rattle.std.specs.Prelude.{◌≡◌, ◌||◌};
+ghost use Rattle.std.specs.Prelude.{◌≡◌};
 ghost use Rattle.st_code.specs.Program.{name_at};
 ghost use Rattle.st_code.specs.Texts.{all_bytes, are_keywords, arity, count_byte, is_identifier, is_keywords, is_operators};
-ghost use Rattle.st_collections.specs.Answers.{program_of};
+ghost use Rattle.st_messages.specs.Printed.{is_bare};
 ghost use Rattle.st_messages.specs.Spellings.{begins, continues, is_operator};
 
-use st_names::Names;
+use crate::facts::ProgramFacts;
 
 #[tactic(auto, unfolding(st_code::specs::Texts::is_letter, st_code::specs::Texts::is_upper, st_code::specs::Texts::is_lower))]
 fn begins_name(byte: u8) -> bool
@@ -139,7 +139,7 @@ fn count_of(byte: u8, text: &[u8]) -> usize
 
 /// Whether a symbol needs no quotes.
 pub(crate) fn is_bare(text: &[u8]) -> bool
-    ensures { result ≡ is_identifier text.now || is_keywords text.now || is_operators text.now }
+    ensures { result ≡ is_bare text.now }
 {
     is_identifier_text(text) || is_keywords_text(text) || is_operators_text(text)
 }
@@ -157,9 +157,10 @@ pub(crate) fn arity_of(text: &[u8]) -> usize
 
 /// The text of a symbol, empty where there is no such symbol.
 #[tactic(auto, unfolding(st_code::specs::Program::name_at))]
-pub(crate) fn name_of(names: &Names, name: u32) -> &[u8]
-    ensures { result.now ≡ name_at (program_of names.now) name }
+pub(crate) fn name_of<P: ProgramFacts>(program: &P, name: u32) -> &[u8]
+    ensures { result.now ≡ name_at (P.meaning program.now) name }
 {
+    let names = program.names();
     if name < names.len() {
         return names.text(name);
     }

@@ -7,7 +7,7 @@ loop-place-init g c = let e : c.args.at + 0 ≡ c.args.at = omega arith in recor
 
 pub loop-place-preserved : goal.loop-place-preserved
 loop-place-preserved g c = record {
-  written = put_more c.args.bytes.now c.args.object c.args.at c.loop-place.place (g.H.Heap.meaning c.loop-place.heap) (g.H.Heap.meaning c.put_byte.new.heap) c.loop-place-test.true c.put_byte.ensures.written ∙ c.loop-place.invariant.written;
+  written = put_more c.args.bytes.now c.args.object c.args.at c.loop-place.place (g.H.Heap.meaning c.loop-place.heap) (g.H.Heap.meaning c.put_byte.new.self) c.loop-place-test.true c.put_byte.ensures.written ∙ c.loop-place.invariant.written;
   literals = c.put_byte.ensures.literals ∙ c.loop-place.invariant.literals;
 }
 

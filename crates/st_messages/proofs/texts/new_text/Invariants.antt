@@ -1,7 +1,7 @@
 use Rattle.std.proofs.Common.{◌≡◌, ◌+◌, ◌-◌, ◌≤◌, length, take}
 use Rattle.object_heap.specs.Charges.{object_charge}
 use Rattle.st_messages.specs.Pieces.{pieces_text}
-use Rattle.st_messages.proofs.Texts.{text_so_far}
+use Rattle.st_messages.proofs.NewTexts.{text_so_far}
 use Rattle.st_messages.proofs.texts.new_text.Given as goal
 
 -- the pieces so far stand in the new String, and the rest is 0

@@ -1,6 +1,6 @@
 use Rattle.std.proofs.Common.{◌≡◌, ◌+◌, ◌≤◌, drop, length}
 use Rattle.st_code.specs.Texts.{quotes_doubled}
-use Rattle.st_messages.proofs.pieces.quotes_in.Given as goal
+use Rattle.st_messages.proofs.pieces.doubled_length.Given as goal
 
 -- those behind are still to be counted
 abbrev pub invariant-loop-byte : goal.invariant-loop-byte

@@ -1,7 +1,7 @@
 use Rattle.std.proofs.Common.{◌≡◌, ◌+◌, ◌≤◌, drop, length}
 use Rattle.object_heap.specs.Store.{object_at}
 use Rattle.st_code.specs.Texts.{quotes_doubled}
-use Rattle.st_messages.proofs.pieces.quotes_in_object.Given as goal
+use Rattle.st_messages.proofs.pieces.doubled_length_of.Given as goal
 
 -- those behind are still to be counted
 abbrev pub invariant-loop-place : goal.invariant-loop-place

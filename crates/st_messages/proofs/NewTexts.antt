@@ -1,5 +1,5 @@
 -- A new String whose pieces are written one behind the other.
-use Rattle.std.proofs.Common.{◌≡◌, ◌≢◌, ℕ, zero, suc, ◌+◌, ◌-◌, ◌<◌, ◌≤◌, ◌^◌, Ok, List, [], ◌∷◌, ◌++◌, length, get_or, take, drop, replicate, nat_le, refl, ap, sym, ◌∙◌, arith, add-zero}
+use Rattle.std.proofs.Common.{◌≡◌, ◌≢◌, ℕ, zero, suc, ◌+◌, ◌-◌, ◌<◌, ◌≤◌, ◌^◌, Ok, Err, List, [], ◌∷◌, ◌++◌, length, get_or, take, drop, replicate, nat_le, refl, ap, sym, ◌∙◌, arith, add-zero}
 use borrow.Author.Tests.{le-leb}
 use Rattle.std.proofs.lemmas.List.{append_assoc, append-nil, get_or_append_left, length-append, take_all, take_more, length-replicate}
 use Rattle.object_heap.specs.declared.value.Value.{Value}
@@ -9,7 +9,9 @@ use Rattle.st_code.specs.BuiltIns.{string_class}
 use Rattle.st_code.specs.Program.{Program}
 use Rattle.st_code.specs.Texts.{Text, quotes_doubled}
 use Rattle.st_collections.specs.Actions.{Makes, makes_string, makes_bytes, new_object, next_object, with_new}
-use Rattle.st_collections.specs.Answers.{answer_of, memory_of}
+use Rattle.object_heap.specs.declared.heap.HeapStop.{HeapStop}
+use Rattle.st_collections.specs.Answers.{allot_answer, answer_of, memory_of, stop_answer, unless_out}
+use Rattle.st_collections.proofs.Objects.{stop_memory, stop_answer-is}
 use Rattle.st_collections.specs.declared.answer.Built.{Built}
 use Rattle.st_collections.proofs.Steady.{object_steady}
 use Rattle.st_messages.specs.declared.pieces.Piece.{Piece}
@@ -32,6 +34,9 @@ text_behind p s (y ∷ xs) x =
 
 pub text_more : (p : Program) (s : Store) (xs : List Piece) (i : ℕ) (d : Piece) → i < length xs → pieces_text p s (take (i + 1) xs) ≡ pieces_text p s (take i xs) ++ piece_text p s (get_or xs i d)
 text_more p s xs i d h = rw (take_more xs i d h) (text_behind p s (take i xs) (get_or xs i d))
+
+pub length-text_more : (p : Program) (s : Store) (xs : List Piece) (i : ℕ) (d : Piece) → i < length xs → length (pieces_text p s (take (i + 1) xs)) ≡ length (pieces_text p s (take i xs)) + length (piece_text p s (get_or xs i d))
+length-text_more p s xs i d h = ap (λ (t : Text). length t) (text_more p s xs i d h) ∙ length-append (pieces_text p s (take i xs)) (piece_text p s (get_or xs i d))
 
 -- so many pieces are no longer than all of them
 pub length-text_front : (p : Program) (s : Store) (x : Piece) (xs : List Piece) → length (pieces_text p s (x ∷ xs)) ≡ length (piece_text p s x) + length (pieces_text p s xs)
@@ -95,3 +100,49 @@ so_far_ends m count t e h = rw (makes_text-is t count m.store e, le-leb (m.used 
 
 pub text_told : (m : Memory) (count n : ℕ) (t : Text) → count ≡ length t → n ≡ length m.store.objects → m.used + object_charge 0 count ≤ m.limit → Built.Value (Value.Object n) ≡ answer_of (makes_string t m.store) m
 text_told m count n t e e' h = rw (makes_text-is t count m.store e, e', le-leb (m.used + object_charge 0 count) m.limit h) refl
+
+-- ---- the same, as the code has it
+
+pub no_text : (stop : HeapStop) (m m' : Memory) (t : Text) (count : ℕ) → count ≡ length t → m' ≡ if_out {A = ℕ} (Err stop) m (charged (object_charge 0 count) (object_added (blank_object string_class 0 count) m.store) m)
+    → Err stop ≡ if_out {A = ℕ} (Err stop) (Err stop) (allot_answer (object_charge 0 count) m)
+    → m' ≡ unless_out (stop_answer stop) m (memory_of (makes_string t m.store) m)
+no_text stop m m' t count n e a =
+    rw (makes_text-is t count m.store n) (stop_memory stop m m' (object_charge 0 count) (object_added (blank_object string_class 0 count) m.store) (object_added (new_object string_class [] t) m.store) (next_object m.store) e a)
+
+pub no_text-told : (stop : HeapStop) (m : Memory) (t : Text) (count : ℕ) → count ≡ length t → Err stop ≡ if_out {A = ℕ} (Err stop) (Err stop) (allot_answer (object_charge 0 count) m)
+    → stop_answer stop ≡ unless_out (stop_answer stop) (stop_answer stop) (answer_of (makes_string t m.store) m)
+no_text-told stop m t count n a =
+    rw (makes_text-is t count m.store n) (stop_answer-is stop m (object_charge 0 count) (object_added (new_object string_class [] t) m.store) (next_object m.store) a)
+
+pub piece_at : (p : Program) (m m1 : Memory) (charge : ℕ) (done : Text) (left : ℕ) (x : Piece) → IsKnown m.store x → m1 ≡ text_so_far m charge done left → piece_text p m1.store x ≡ piece_text p m.store x
+piece_at p m m1 charge done left x h e =
+    ap (λ (n : Memory). piece_text p n.store x) e ∙ piece_steady p x (new_object string_class [] (done ++ replicate left 0)) m.store h
+
+pub text_fits : (p : Program) (m m1 : Memory) (xs : List Piece) (i count at charge : ℕ) → AreKnown m.store xs → i < length xs → at ≡ length (pieces_text p m.store (take i xs)) → count ≡ length (pieces_text p m.store xs)
+    → m1 ≡ text_so_far m charge (pieces_text p m.store (take i xs)) (count - at) → at + length (piece_text p m1.store (get_or xs i Piece.Nothing)) ≤ count
+text_fits p m m1 xs i count at charge k h a n e =
+    let x = get_or xs i Piece.Nothing in
+    let same : piece_text p m1.store x ≡ piece_text p m.store x = piece_at p m m1 charge (pieces_text p m.store (take i xs)) (count - at) x (known_at m.store xs i Piece.Nothing h k) e in
+    rw same (omega (arith, a, n, length-text_more p m.store xs i Piece.Nothing h, shorter p m.store xs (i + 1)))
+
+pub text_step : (p : Program) (m m1 m2 : Memory) (xs : List Piece) (i count number at at' charge : ℕ) → AreKnown m.store xs → i < length xs → number ≡ length m.store.objects → at ≡ length (pieces_text p m.store (take i xs)) → count ≡ length (pieces_text p m.store xs)
+    → m1 ≡ text_so_far m charge (pieces_text p m.store (take i xs)) (count - at)
+    → m2 ≡ put number at (piece_text p m1.store (get_or xs i Piece.Nothing)) m1 → at' ≡ at + length (piece_text p m1.store (get_or xs i Piece.Nothing))
+    → (at' ≡ length (pieces_text p m.store (take (i + 1) xs))) × (m2 ≡ text_so_far m charge (pieces_text p m.store (take (i + 1) xs)) (count - at'))
+text_step p m m1 m2 xs i count number at at' charge k h o a n e1 e2 a' =
+    let x : Piece = get_or xs i Piece.Nothing in
+    let done : Text = pieces_text p m.store (take i xs) in
+    let t : Text = piece_text p m.store x in
+    let same : piece_text p m1.store x ≡ t = piece_at p m m1 charge done (count - at) x (known_at m.store xs i Piece.Nothing h k) e1 in
+    let further : at' ≡ at + length t = a' ∙ ap (λ (u : Text). at + length u) same in
+    let more : length (pieces_text p m.store (take (i + 1) xs)) ≡ length done + length t = length-text_more p m.store xs i Piece.Nothing h in
+    let split : count - at ≡ length t + (count - at') = omega (arith, further, a, n, more, shorter p m.store xs (i + 1)) in
+    let wrote : m2 ≡ put number at t (text_so_far m charge done (length t + (count - at'))) = e2 ∙ (ap (λ (u : Text). put number at u m1) same ∙ ap (λ (w : Memory). put number at t w) (e1 ∙ ap (λ (left : ℕ). text_so_far m charge done left) split)) in
+    (omega (arith, further, a, more), rw (text_more p m.store xs i Piece.Nothing h) (so_far_more m m2 charge number at done t (count - at') o a wrote))
+
+pub text_end : (p : Program) (m m1 : Memory) (xs : List Piece) (i count at : ℕ) → length xs ≤ i → at ≡ length (pieces_text p m.store (take i xs)) → count ≡ length (pieces_text p m.store xs) → m.used + object_charge 0 count ≤ m.limit
+    → m1 ≡ text_so_far m (object_charge 0 count) (pieces_text p m.store (take i xs)) (count - at) → m1 ≡ memory_of (makes_string (pieces_text p m.store xs) m.store) m
+text_end p m m1 xs i count at h a n paid e =
+    let all : take i xs ≡ xs = take_all i xs h in
+    let none : count - at ≡ 0 = omega (arith, rw all at a, n) in
+    (rw (all, none) at e) ∙ so_far_ends m count (pieces_text p m.store xs) n paid
