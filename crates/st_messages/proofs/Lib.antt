@@ -3,6 +3,7 @@ pub mod Blanks
 pub mod CollectionsAtOnce
 pub mod KindLaws
 pub mod MissedTexts
+pub mod NewSlots
 pub mod NewTexts
 pub mod NumberLaws
 pub mod PerformLaws

@@ -57,6 +57,7 @@ fn selector_count<H: Heap>(heap: &H, value: Value) -> u32
 }
 
 // Writes the selectors of a plain selector, and answers the place behind them.
+#[tactic(auto, unfolding(crate::specs::Pieces::slots_put))]
 fn put_selectors<H: Heap>(heap: &mut H, object: u32, at: u32, value: Value, count: u32) -> u32
     requires other { 0 < count → IsOther object value }
     requires fits { at + count < 2 ^ 32 }
