@@ -4,12 +4,12 @@ use Rattle.std.proofs.lemmas.Bool.{cases_lt}
 use Rattle.std.proofs.lemmas.List.{append_assoc, append-nil, get_or_past}
 use Rattle.object_heap.specs.declared.value.Value.{Value}
 use Rattle.object_heap.specs.declared.value.Value.TheVariants.{Nil, True, False, Integer, Character, Symbol, Class, Meta, Transcript, Object}
-use Rattle.object_heap.specs.Store.{Store, no_object, object_at}
-use Rattle.st_code.specs.BuiltIns.{string_class}
-use Rattle.st_code.specs.Lookup.{class_text}
+use Rattle.object_heap.specs.Store.{Store, no_object, object_at, slot_at}
+use Rattle.st_code.specs.BuiltIns.{message_class, message_not_understood_class, string_class}
+use Rattle.st_code.specs.Lookup.{class_of, class_text, inherits}
 use Rattle.st_code.specs.Program.{Program, name_at}
 use Rattle.st_code.specs.Texts.{Text, quoted, symbol_text}
-use Rattle.st_collections.specs.Kinds.{kept_message}
+use Rattle.st_collections.specs.Kinds.{is_a, kept_message, slot_of, slots_of, unkept_text}
 use Rattle.st_messages.specs.declared.pieces.Piece.{Piece}
 use Rattle.st_messages.specs.Pieces.{AreKnown, piece_text, pieces_text}
 use Rattle.st_messages.specs.Printed.{alone, class_piece, class_suffix, is_bare, missed_pieces, missed_symbol, symbol_pieces}
@@ -76,6 +76,14 @@ missed-text p s class (Class c) = missed_alone p s class
 missed-text p s class (Meta c) = missed_alone p s class
 missed-text p s class Transcript = missed_alone p s class
 missed-text p s class (Object n) = missed_alone p s class
+
+pub slot_object : (n i : ℕ) (s : Store) → slot_of s (Object n) i ≡ slot_at n i s
+unfolding slot_of slots_of
+slot_object n i s = refl
+
+pub unkept-is : (p : Program) (s : Store) (n class : ℕ) → inherits p class message_not_understood_class ≡ true → is_a s message_class (slot_of s (Object n) 1) ≡ true
+    → unkept_text p s n class ≡ pieces_text p s (missed_pieces p (class_of s (slot_of s (Object n) 2)) (slot_of s (slot_of s (Object n) 1) 0))
+unkept-is p s n class h k = rw (h, k) (sym (missed-text p s (class_of s (slot_of s (Object n) 2)) (slot_of s (slot_of s (Object n) 1) 0)))
 
 pub alone-text : (p : Program) (s : Store) (x : Piece) → pieces_text p s (alone x) ≡ piece_text p s x
 alone-text p s x = refl

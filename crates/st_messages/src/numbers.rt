@@ -126,7 +126,11 @@ fn reply_of<H: Heap, P: ProgramFacts>(
 {
     match answered {
         NumberAnswer::Value(value) => answer(value),
-        NumberAnswer::Fraction(over, under) => Reply::Answer(new_fraction(heap, over, under)),
+        NumberAnswer::Fraction(over, under) => {
+            let over = Value::Integer(over);
+            let under = Value::Integer(under);
+            Reply::Answer(new_fraction(heap, over, under))
+        }
         NumberAnswer::Receiver => answer(receiver),
         NumberAnswer::Argument => answer(first_of(arguments)),
         NumberAnswer::Trouble(Trouble::ZeroDivide) => Reply::DividesByZero(dividend),

@@ -1,6 +1,5 @@
 // New objects of values that stand in other objects.
 ghost use Rattle.std.specs.Prelude.{◌≡◌, ◌≢◌, ◌+◌, ◌<◌, ◌≤◌, ◌^◌, ◌++◌, ◌∷◌, [], false, IsTrue, length, take};
-ghost use Rattle.object_heap.specs.declared.value.Value.{Value};
 ghost use Rattle.object_heap.specs.Charges.{with_store};
 ghost use Rattle.object_heap.specs.Store.{object_at};
 ghost use Rattle.st_code.specs.BuiltIns.{exception_set_class, fraction_class};
@@ -30,10 +29,10 @@ fn put_slots_of<H: Heap>(heap: &mut H, object: u32, at: u32, from: u32, count: u
     at + count
 }
 
-/// A new Fraction.
-pub fn new_fraction<H: Heap>(heap: &mut H, over: i128, under: i128) -> Built
-    ensures memory { H.meaning heap.new ≡ unless_out result (H.meaning heap.old) (memory_of (makes_slots fraction_class (Value.Integer over ∷ Value.Integer under ∷ []) (H.meaning heap.old).store) (H.meaning heap.old)) }
-    ensures answer { result ≡ unless_out result result (answer_of (makes_slots fraction_class (Value.Integer over ∷ Value.Integer under ∷ []) (H.meaning heap.old).store) (H.meaning heap.old)) }
+/// A new Fraction of this numerator and denominator.
+pub fn new_fraction<H: Heap>(heap: &mut H, over: Value, under: Value) -> Built
+    ensures memory { H.meaning heap.new ≡ unless_out result (H.meaning heap.old) (memory_of (makes_slots fraction_class (over ∷ under ∷ []) (H.meaning heap.old).store) (H.meaning heap.old)) }
+    ensures answer { result ≡ unless_out result result (answer_of (makes_slots fraction_class (over ∷ under ∷ []) (H.meaning heap.old).store) (H.meaning heap.old)) }
     ensures reserved { IsTrue H.reserved → is_out result ≡ false }
     ensures literals { H.literal_room heap.new ≡ H.literal_room heap.old }
 {
@@ -41,8 +40,8 @@ pub fn new_fraction<H: Heap>(heap: &mut H, over: i128, under: i128) -> Built
         Ok(object) => object,
         Err(stop) => return answer_stop(stop),
     };
-    heap.put(object, 0, Value::Integer(over));
-    heap.put(object, 1, Value::Integer(under));
+    heap.put(object, 0, over);
+    heap.put(object, 1, under);
     Built::Value(Value::Object(object))
 }
 
