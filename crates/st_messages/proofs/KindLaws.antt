@@ -20,11 +20,11 @@ of_kind levels (Class class) = on_level OfInstance class levels
 of_kind levels (Meta class) = on_level OfClass class levels
 of_kind levels v = false
 
-same_step : (b u v : Bool) → u ≡ v → elim (b && true) [ true ↦ true | false ↦ u ] ≡ elim b [ true ↦ true | false ↦ v ]
+same_step : (b u v : Bool) → u ≡ v → ◌≡◌ {A = Bool} (elim (b && true) [ true ↦ true | false ↦ u ]) (elim b [ true ↦ true | false ↦ v ])
 same_step true u v h = refl
 same_step false u v h = h
 
-other_step : (b u v : Bool) → u ≡ v → elim (b && false) [ true ↦ true | false ↦ u ] ≡ v
+other_step : (b u v : Bool) → u ≡ v → ◌≡◌ {A = Bool} (elim (b && false) [ true ↦ true | false ↦ u ]) v
 other_step true u v h = h
 other_step false u v h = h
 
@@ -44,12 +44,12 @@ instances_behind : (xs : List ℕ) (c : ℕ) (rest : List Level) → on_level Of
 instances_behind [] c rest = refl
 instances_behind (x ∷ xs) c rest = other_step (nat_eq x c) (on_level OfInstance c (map (level OfClass) xs ++ rest)) (on_level OfInstance c rest) (instances_behind xs c rest)
 
-two_step : (a b : Bool) → elim (a && true) [ true ↦ true | false ↦ elim (b && true) [ true ↦ true | false ↦ false ] ] ≡ (a || b)
+two_step : (a b : Bool) → ◌≡◌ {A = Bool} (elim (a && true) [ true ↦ true | false ↦ elim (b && true) [ true ↦ true | false ↦ false ] ]) (a || b)
 two_step true b = refl
 two_step false true = refl
 two_step false false = refl
 
-none_step : (a b : Bool) → elim (a && false) [ true ↦ true | false ↦ elim (b && false) [ true ↦ true | false ↦ false ] ] ≡ false
+none_step : (a b : Bool) → ◌≡◌ {A = Bool} (elim (a && false) [ true ↦ true | false ↦ elim (b && false) [ true ↦ true | false ↦ false ] ]) false
 none_step true true = refl
 none_step true false = refl
 none_step false true = refl

@@ -5,7 +5,7 @@ pub mod KindLaws
 pub mod MissedTexts
 pub mod NewSlots
 pub mod NewTexts
-pub mod NumberLaws
 pub mod PerformLaws
 pub mod Puts
+pub mod RowLaws
 pub mod SlotPuts

@@ -5,4 +5,4 @@ pub mod Levels
 pub mod Selectors
 pub mod Pieces
 pub mod Printed
-pub mod Numbers
+pub mod Sent

@@ -1,19 +1,17 @@
 -- The rows of the table of built-in messages that these rows are.
 use Rattle.std.specs.Prelude.{ℕ, List, map, Option, Some, None}
-use Rattle.st_code.specs.Messages.{ObjectMessage, ClassMessage, BooleanMessage, NumberMessage, TranscriptMessage, BlockMessage, ExceptionMessage, CollectionMessage as CollectionRow, Row, Objects, Classes, Booleans, Numbers, Characters, Transcripts, Strings, Sequences, Collections, Blocks, Exceptions, Loops, Slots}
+use Rattle.st_code.specs.Messages.{ObjectMessage, ClassMessage, BooleanMessage, TranscriptMessage, BlockMessage, ExceptionMessage, CollectionMessage as CollectionRow, Row, Objects, Classes, Booleans, Numbers, Characters, Transcripts, Strings, Sequences, Collections, Blocks, Exceptions, Loops, Slots}
 use Rattle.st_code.specs.BuiltIns.{BuiltInMessage, numbered_messages}
-use Rattle.st_collections.specs.declared.message.CollectionMessage.{CollectionMessage}
 use Rattle.st_collections.specs.declared.message.OfMaking.{OfMaking}
 use Rattle.st_collections.specs.declared.message.OfOrdered.{OfOrdered}
 use Rattle.st_collections.specs.declared.message.OfPair.{OfPair}
 use Rattle.st_collections.specs.AtOnce.{character_row, string_row, sequence_row}
-use Rattle.st_numbers.specs.declared.message.NumberMessage.{NumberMessage as PlainNumber}
 use Rattle.st_messages.specs.declared.row.MessageRow.{MessageRow}
 use Rattle.st_messages.specs.declared.row.OfObject.{OfObject}
 use Rattle.st_messages.specs.declared.row.OfQuestion.{OfQuestion}
 use Rattle.st_messages.specs.declared.row.OfClass.{OfClass}
 use Rattle.st_messages.specs.declared.row.OfBoolean.{OfBoolean}
-use Rattle.st_messages.specs.declared.row.OfNumber.{OfNumber}
+use Rattle.st_messages.specs.declared.row.OfMaker.{OfMaker}
 use Rattle.st_messages.specs.declared.row.OfTranscript.{OfTranscript}
 use Rattle.st_messages.specs.declared.row.OfBlock.{OfBlock}
 use Rattle.st_messages.specs.declared.row.OfSelector.{OfSelector}
@@ -65,47 +63,6 @@ boolean_row OfBoolean.IfFalse = BooleanMessage.IfFalse
 boolean_row OfBoolean.IfTrueIfFalse = BooleanMessage.IfTrueIfFalse
 boolean_row OfBoolean.IfFalseIfTrue = BooleanMessage.IfFalseIfTrue
 
-abbrev pub plain_row : PlainNumber → NumberMessage
-plain_row PlainNumber.Add = NumberMessage.Add
-plain_row PlainNumber.Subtract = NumberMessage.Subtract
-plain_row PlainNumber.Multiply = NumberMessage.Multiply
-plain_row PlainNumber.Divide = NumberMessage.Divide
-plain_row PlainNumber.FloorDivide = NumberMessage.FloorDivide
-plain_row PlainNumber.Modulo = NumberMessage.FloorModulo
-plain_row PlainNumber.Quo = NumberMessage.Quotient
-plain_row PlainNumber.Rem = NumberMessage.Remainder
-plain_row PlainNumber.Less = NumberMessage.Less
-plain_row PlainNumber.Greater = NumberMessage.Greater
-plain_row PlainNumber.LessOrEqual = NumberMessage.LessOrEqual
-plain_row PlainNumber.GreaterOrEqual = NumberMessage.GreaterOrEqual
-plain_row PlainNumber.Equal = NumberMessage.Equal
-plain_row PlainNumber.Negated = NumberMessage.Negated
-plain_row PlainNumber.Abs = NumberMessage.Abs
-plain_row PlainNumber.Sign = NumberMessage.Sign
-plain_row PlainNumber.Even = NumberMessage.Even
-plain_row PlainNumber.Odd = NumberMessage.Odd
-plain_row PlainNumber.IsZero = NumberMessage.IsZero
-plain_row PlainNumber.Max = NumberMessage.Max
-plain_row PlainNumber.Min = NumberMessage.Min
-plain_row PlainNumber.Gcd = NumberMessage.Gcd
-plain_row PlainNumber.Lcm = NumberMessage.Lcm
-plain_row PlainNumber.BitAnd = NumberMessage.BitAnd
-plain_row PlainNumber.BitOr = NumberMessage.BitOr
-plain_row PlainNumber.BitXor = NumberMessage.BitXor
-plain_row PlainNumber.BitShift = NumberMessage.BitShift
-plain_row PlainNumber.Numerator = NumberMessage.Numerator
-plain_row PlainNumber.Denominator = NumberMessage.Denominator
-plain_row PlainNumber.Truncated = NumberMessage.Truncated
-plain_row PlainNumber.Reciprocal = NumberMessage.Reciprocal
-
-abbrev pub number_row : OfNumber → NumberMessage
-number_row (OfNumber.Plain m) = plain_row m
-number_row OfNumber.AsString = NumberMessage.AsString
-number_row OfNumber.PrintRadix = NumberMessage.PrintRadix
-number_row OfNumber.To = NumberMessage.To
-number_row OfNumber.ToBy = NumberMessage.ToBy
-number_row OfNumber.FromNumerator = NumberMessage.FromNumerator
-
 abbrev pub transcript_row : OfTranscript → TranscriptMessage
 transcript_row OfTranscript.Show = TranscriptMessage.Show
 transcript_row OfTranscript.NextPut = TranscriptMessage.NextPut
@@ -138,16 +95,24 @@ exception_row OfException.TerminatesProgram = ExceptionMessage.TerminatesProgram
 exception_row OfException.AnswersNil = ExceptionMessage.AnswersNil
 exception_row OfException.Warns = ExceptionMessage.Warns
 
-abbrev pub making_row : OfMaking → Row
-making_row OfMaking.Array = Collections CollectionRow.NewArray
-making_row OfMaking.ByteArray = Collections CollectionRow.NewByteArray
-making_row OfMaking.With = Collections CollectionRow.With
-making_row OfMaking.WithAll = Collections CollectionRow.WithAll
-making_row OfMaking.Empty = Collections CollectionRow.NewEmpty
-making_row OfMaking.KeyValue = Collections CollectionRow.KeyValue
-making_row OfMaking.Arrow = Objects ObjectMessage.Arrow
-making_row OfMaking.To = Numbers NumberMessage.To
-making_row OfMaking.ToBy = Numbers NumberMessage.ToBy
+abbrev pub maker_row : OfMaker → Row
+maker_row OfMaker.Array = Collections CollectionRow.NewArray
+maker_row OfMaker.ByteArray = Collections CollectionRow.NewByteArray
+maker_row OfMaker.With = Collections CollectionRow.With
+maker_row OfMaker.WithAll = Collections CollectionRow.WithAll
+maker_row OfMaker.Empty = Collections CollectionRow.NewEmpty
+maker_row OfMaker.KeyValue = Collections CollectionRow.KeyValue
+maker_row OfMaker.Arrow = Objects ObjectMessage.Arrow
+
+-- the same as a message of collections
+abbrev pub making_of : OfMaker → OfMaking
+making_of OfMaker.Array = OfMaking.Array
+making_of OfMaker.ByteArray = OfMaking.ByteArray
+making_of OfMaker.With = OfMaking.With
+making_of OfMaker.WithAll = OfMaking.WithAll
+making_of OfMaker.Empty = OfMaking.Empty
+making_of OfMaker.KeyValue = OfMaking.KeyValue
+making_of OfMaker.Arrow = OfMaking.Arrow
 
 abbrev pub ordered_row : OfOrdered → CollectionRow
 ordered_row OfOrdered.Add = CollectionRow.Add
@@ -163,22 +128,18 @@ pair_row OfPair.Values = Collections CollectionRow.Values
 pair_row OfPair.Key = Slots 0
 pair_row OfPair.Value = Slots 1
 
-abbrev pub collection_row : CollectionMessage → Row
-collection_row (CollectionMessage.Character m) = Characters (character_row m)
-collection_row (CollectionMessage.String m) = Strings (string_row m)
-collection_row (CollectionMessage.Sequence m) = Sequences (sequence_row m)
-collection_row (CollectionMessage.Making m) = making_row m
-collection_row (CollectionMessage.Ordered m) = Collections (ordered_row m)
-collection_row (CollectionMessage.Pair m) = pair_row m
-
 -- the row of the table
 abbrev pub table_row : MessageRow → Row
 table_row (MessageRow.Object m) = Objects (object_row m)
 table_row (MessageRow.Class m) = Classes (class_row m)
 table_row (MessageRow.Boolean m) = Booleans (boolean_row m)
-table_row (MessageRow.Number m) = Numbers (number_row m)
 table_row (MessageRow.Transcript m) = Transcripts (transcript_row m)
-table_row (MessageRow.Collection m) = collection_row m
+table_row (MessageRow.Character m) = Characters (character_row m)
+table_row (MessageRow.String m) = Strings (string_row m)
+table_row (MessageRow.Sequence m) = Sequences (sequence_row m)
+table_row (MessageRow.Maker m) = maker_row m
+table_row (MessageRow.Ordered m) = Collections (ordered_row m)
+table_row (MessageRow.Pair m) = pair_row m
 table_row (MessageRow.Block m) = Blocks (block_row m)
 table_row (MessageRow.Selector m) = Exceptions (selector_row m)
 table_row (MessageRow.Exception m) = Exceptions (exception_row m)
@@ -188,10 +149,11 @@ table_row (MessageRow.Slot slot) = Slots slot
 abbrev pub at_once : Row → Option Row
 at_once (Objects ObjectMessage.Copy) = None
 at_once (Collections CollectionRow.AddAll) = None
+at_once (Numbers m) = None
 at_once (Loops m) = None
 at_once row = Some row
 
-abbrev row_at_once : BuiltInMessage → Option Row
+abbrev pub row_at_once : BuiltInMessage → Option Row
 row_at_once m = at_once m.row
 
 -- those of all messages, by number

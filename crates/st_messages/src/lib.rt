@@ -7,13 +7,13 @@ mod booleans;
 mod built_in;
 mod classes;
 mod collections;
+mod dispatch;
 mod exception_texts;
 mod exceptions;
 mod facts;
 mod indexed;
 mod level;
 mod makers;
-mod numbers;
 mod objects;
 mod performs;
 mod pieces;
@@ -31,10 +31,17 @@ mod values;
 
 pub use blocks::block_message;
 pub use booleans::boolean_message;
+pub use classes::class_message;
+pub use collections::collection_reply;
+pub use dispatch::{row_message, send_message, super_message};
+pub use exceptions::exception_message;
 pub use facts::ProgramFacts;
+pub use objects::object_message;
 pub use reply::{Control, Passed, Reply, Written};
 pub use row::{
-    MessageRow, OfBlock, OfBoolean, OfClass, OfException, OfNumber, OfObject, OfQuestion,
-    OfTranscript,
+    MessageRow, OfBlock, OfBoolean, OfClass, OfException, OfMaker, OfObject, OfQuestion,
+    OfSelector, OfTranscript,
 };
+pub use selectors::selector_message;
+pub use table::row_of;
 pub use transcripts::transcript_message;

@@ -106,6 +106,17 @@ fn print_words<H: Heap, P: ProgramFacts>(heap: &mut H, program: &P, words: Words
     new_text(heap, program, &[Piece::Words(words)])
 }
 
+// A new String of a symbol as it is written.
+fn print_symbol<H: Heap, P: ProgramFacts>(heap: &mut H, program: &P, name: u32) -> Built
+    ensures memory { H.meaning heap.new ≡ unless_out result (H.meaning heap.old) (memory_of (makes_string (symbol_text (name_at (P.meaning program.now) name)) (H.meaning heap.old).store) (H.meaning heap.old)) }
+    ensures answer { result ≡ unless_out result result (answer_of (makes_string (symbol_text (name_at (P.meaning program.now) name)) (H.meaning heap.old).store) (H.meaning heap.old)) }
+    ensures reserved { IsTrue H.reserved → is_out result ≡ false }
+    ensures literals { H.literal_room heap.new ≡ H.literal_room heap.old }
+{
+    let pieces = symbol_pieces(program, name);
+    new_text(heap, program, &pieces)
+}
+
 /// What `printString` answers.
 #[tactic(auto, unfolding(st_collections::specs::Kinds::print_text))]
 pub fn print_string<H: Heap, P: ProgramFacts>(heap: &mut H, program: &P, receiver: Value) -> Built
@@ -123,10 +134,7 @@ pub fn print_string<H: Heap, P: ProgramFacts>(heap: &mut H, program: &P, receive
         Value::Character(byte) => {
             new_text(heap, program, &[Piece::Byte(b'$'), Piece::Byte(byte)])
         }
-        Value::Symbol(name) => {
-            let pieces = symbol_pieces(program, name);
-            new_text(heap, program, &pieces)
-        }
+        Value::Symbol(name) => print_symbol(heap, program, name),
         Value::Class(class) => new_text(heap, program, &[Piece::ClassName(class)]),
         Value::Meta(class) => {
             let pieces = [Piece::ClassName(class), Piece::Words(Words::Class)];

@@ -1,7 +1,6 @@
 // The rows of the table of built-in messages, by what they do.
 use crate::reply::Control;
-use st_collections::CollectionMessage;
-use st_numbers::NumberMessage;
+use st_collections::{OfCharacter, OfOrdered, OfPair, OfSequence, OfString};
 
 /// A row of the table of built-in messages that acts at once (ANSI NCITS 319, 5).
 #[derive(Clone, Copy, Debug, PartialEq, Eq)]
@@ -9,10 +8,13 @@ pub enum MessageRow {
     Object(OfObject),
     Class(OfClass),
     Boolean(OfBoolean),
-    Number(OfNumber),
     Transcript(OfTranscript),
-    /// Of characters, strings and collections.
-    Collection(CollectionMessage),
+    Character(OfCharacter),
+    String(OfString),
+    Sequence(OfSequence),
+    Maker(OfMaker),
+    Ordered(OfOrdered),
+    Pair(OfPair),
     Block(OfBlock),
     Selector(OfSelector),
     Exception(OfException),
@@ -114,21 +116,23 @@ pub enum OfBoolean {
     IfFalseIfTrue,
 }
 
-/// The messages of Integers and Fractions (section 5.6).
+/// The messages that make a collection or an Association (section 5.7).
 #[derive(Clone, Copy, Debug, PartialEq, Eq)]
-pub enum OfNumber {
-    /// One that takes no memory but for a Fraction.
-    Plain(NumberMessage),
-    /// `asString`
-    AsString,
-    /// `printString:`
-    PrintRadix,
-    /// `to:`
-    To,
-    /// `to:by:`
-    ToBy,
-    /// `numerator:denominator:` of class Fraction
-    FromNumerator,
+pub enum OfMaker {
+    /// `new:` of class Array
+    Array,
+    /// `new:` of class ByteArray
+    ByteArray,
+    /// `with:` to `with:with:with:with:` of class Array
+    With,
+    /// `withAll:` of class Array
+    WithAll,
+    /// `new` and `new:` of class OrderedCollection, `new` of Set and Dictionary
+    Empty,
+    /// `key:value:` of class Association
+    KeyValue,
+    /// `->` of any object
+    Arrow,
 }
 
 /// The messages of the Transcript (section 5.10).
