@@ -8,4 +8,5 @@ pub mod NewTexts
 pub mod PerformLaws
 pub mod Puts
 pub mod RowLaws
+pub mod SendLaws
 pub mod SlotPuts
