@@ -2,10 +2,11 @@
 ghost use Rattle.std.specs.Prelude.{◌≡◌, false, IfNone, IfSome, IsTrue, is_some};
 ghost use Rattle.std.specs.Option.{option_map};
 ghost use Rattle.program_image.specs.Images.{as_row};
-ghost use Rattle.st_code.specs.Lookup.{level_of, lookup, super_lookup};
+ghost use Rattle.st_code.specs.BuiltIns.{numbered_row};
+ghost use Rattle.st_code.specs.Lookup.{BuiltIn, level_of, lookup, super_lookup};
 ghost use Rattle.st_rules.specs.Sends.{row_action, send_action, super_action};
 ghost use Rattle.st_messages.specs.Replies.{is_lost, memory_after, seen, told_by, unless_lost};
-ghost use Rattle.st_messages.specs.Rows.{making_of, table_row};
+ghost use Rattle.st_messages.specs.Rows.{at_once, making_of, table_row};
 ghost use Rattle.st_messages.specs.Sent.{IsReady, IsSound, found_does, is_here};
 
 use crate::blocks::block_message;
@@ -93,6 +94,28 @@ pub fn row_message<H: Heap, P: ProgramFacts>(
     }
 }
 
+// What the built-in message with this number does at once. None where that isn't done here.
+fn built_in_message<H: Heap, P: ProgramFacts>(
+    heap: &mut H,
+    program: &P,
+    message: u16,
+    receiver: Value,
+    arguments: &[Value],
+) -> Option<Reply>
+    requires { IsReady (H.meaning heap.old).store (Some (BuiltIn (numbered_row message))) receiver arguments.now }
+    ensures memory { IfSome result (λ reply. H.meaning heap.new ≡ unless_lost reply (H.meaning heap.old) (memory_after (row_action (P.meaning program.now) (H.meaning heap.old).store (numbered_row message) receiver arguments.now) (H.meaning heap.old))) }
+    ensures reply { IfSome result (λ reply. let said = seen (P.meaning program.now) (H.meaning heap.old).store arguments.now reply in said ≡ unless_lost reply said (told_by (row_action (P.meaning program.now) (H.meaning heap.old).store (numbered_row message) receiver arguments.now) (H.meaning heap.old))) }
+    ensures reserved { IfSome result (λ reply. IsTrue H.reserved → is_lost reply ≡ false) }
+    ensures rest { IfNone result (H.meaning heap.new ≡ H.meaning heap.old) }
+    ensures literals { H.literal_room heap.new ≡ H.literal_room heap.old }
+    ensures here { is_some result ≡ is_some (at_once (numbered_row message)) }
+{
+    match row_of(message) {
+        Some(row) => Some(row_message(heap, program, row, receiver, arguments)),
+        None => None,
+    }
+}
+
 // What is found does at once. None where that isn't done here.
 fn found_message<H: Heap, P: ProgramFacts>(
     heap: &mut H,
@@ -113,10 +136,9 @@ fn found_message<H: Heap, P: ProgramFacts>(
     match found {
         None => Some(Reply::Misses(selector, receiver)),
         Some(Found::User(code)) => Some(Reply::Enters(code, receiver)),
-        Some(Found::BuiltIn(message)) => match row_of(message) {
-            Some(row) => Some(row_message(heap, program, row, receiver, arguments)),
-            None => None,
-        },
+        Some(Found::BuiltIn(message)) => {
+            built_in_message(heap, program, message, receiver, arguments)
+        }
     }
 }
 
