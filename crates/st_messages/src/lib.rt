@@ -45,3 +45,6 @@ pub use row::{
 pub use selectors::selector_message;
 pub use table::row_of;
 pub use transcripts::transcript_message;
+
+#[cfg(test)]
+mod tests;
