@@ -1,0 +1,12 @@
+pub mod AtOnce
+pub mod Blanks
+pub mod CollectionsAtOnce
+pub mod KindLaws
+pub mod MissedTexts
+pub mod NewSlots
+pub mod NewTexts
+pub mod PerformLaws
+pub mod Puts
+pub mod RowLaws
+pub mod SendLaws
+pub mod SlotPuts
