@@ -1,0 +1,6 @@
+pub mod Seen
+pub mod Plans
+pub mod Operands
+pub mod Scopes
+pub mod Instructions
+pub mod Opening

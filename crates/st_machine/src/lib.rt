@@ -1,0 +1,14 @@
+// The instruction machine: code runs over a flat stack of activations and a heap, and what stands settles each outcome. A step takes no memory.
+#![tactic(auto)]
+
+mod instructions;
+mod loaded;
+mod machine;
+mod opening;
+mod operands;
+mod scopes;
+mod work;
+
+pub use loaded::{Limits, Loaded};
+pub use machine::Machine;
+pub use work::{Ending, Mode, Told, Work};
