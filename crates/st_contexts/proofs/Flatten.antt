@@ -1,6 +1,6 @@
 -- What a change at the end of the flat stack does to the activations.
-use Rattle.std.proofs.Common.{◌≡◌, ℕ, suc, zero, ◌+◌, ◌-◌, ◌*◌, ◌<◌, ◌≤◌, List, [], ◌∷◌, ◌++◌, length, get_or, take, drop, set, reverse, nat_lt, nat_le, Bool, true, false, Ok, Err, refl, ap, sym, ◌∙◌, arith, length-append, add-one}
-use Rattle.std.proofs.lemmas.List.{reverse-reverse, length-reverse, length-drop, length-take-le, length-set, get_or-drop, get_or_past, set_past, drop-set-add, drop-set-lt, take-append-drop, reverse-append}
+use Rattle.std.proofs.Common.{◌≡◌, ℕ, suc, ◌+◌, ◌-◌, ◌*◌, ◌<◌, ◌≤◌, List, [], ◌∷◌, ◌++◌, length, get_or, take, drop, set, reverse, nat_lt, nat_le, true, false, Ok, Err, refl, ap, sym, ◌∙◌, arith, length-append, add-one}
+use Rattle.std.proofs.lemmas.List.{reverse-reverse, length-reverse, length-drop, length-take-le, length-set, get_or-drop, get_or_past, set_past, drop-set-add, drop-set-lt}
 use Rattle.std.proofs.Math.Nat.{mul-le-mul_left, mul-suc, mul_comm}
 use Rattle.std.proofs.lemmas.Bool.{lt-ltb, le-ltb, lt-leb, le-leb}
 use Rattle.object_heap.specs.declared.value.Value.{Value}

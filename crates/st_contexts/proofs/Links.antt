@@ -1,6 +1,6 @@
 -- The environment that a link names is its entry with the environment of the entry's own link, wherever the numbers fall.
 use Rattle.std.proofs.Common.{◌≡◌, ℕ, suc, zero, ◌<◌, ◌≤◌, List, [], ◌∷◌, take, drop, nat_lt, nat_eq, Bool, true, false, Option, Some, None, refl, ap, sym, ◌∙◌, arith, if◌then◌else◌}
-use Rattle.std.proofs.lemmas.Bool.{ne_eqb, eqb-true, ltb-true, ltb-false, lt-ltb, le-ltb}
+use Rattle.std.proofs.lemmas.Bool.{ne_eqb, eqb-true, ltb-true, ltb-false}
 use Rattle.object_heap.specs.declared.value.Value.{Value}
 use Rattle.st_contexts.specs.declared.activation.Activation.{Activation}
 use Rattle.st_contexts.specs.declared.activation.Activation.TheVariants.{Body, Leaving, Protect, EnsureOn, CurtailOn, ActionOff, Signal, HandlerRun, Outer, ResumeWait, HandlesWait, Loop}

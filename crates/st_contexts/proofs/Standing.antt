@@ -1,11 +1,11 @@
 -- What is found at a place is what stands with its number.
-use Rattle.std.proofs.Common.{◌≡◌, ℕ, suc, zero, ◌+◌, ◌-◌, ◌<◌, ◌≤◌, List, [], ◌∷◌, ◌++◌, length, get_or, slice_get, take, drop, reverse, nat_lt, nat_eq, Bool, true, false, Option, Some, None, refl, ap, sym, ◌∙◌, arith, if◌then◌else◌}
-use Rattle.std.proofs.lemmas.List.{length-reverse, get_or-reverse, get_or-append_right, get_or_append_left, reverse-reverse, reverse-append, take-append-drop, append_assoc, length-take-le, length-append, length-drop}
+use Rattle.std.proofs.Common.{◌≡◌, ℕ, suc, zero, ◌+◌, ◌-◌, ◌<◌, ◌≤◌, List, [], ◌∷◌, ◌++◌, length, get_or, take, drop, reverse, nat_lt, nat_eq, Bool, true, false, Option, Some, None, refl, ap, sym, ◌∙◌, arith, if◌then◌else◌}
+use Rattle.std.proofs.lemmas.List.{length-reverse, get_or-reverse, get_or_append_left, reverse-reverse, reverse-append, take-append-drop, append_assoc, length-take-le, length-append, length-drop}
 use Rattle.std.proofs.lemmas.Bool.{ltb-true, ltb-false}
 use Rattle.object_heap.specs.declared.value.Value.{Value}
 use Rattle.object_heap.specs.declared.value.Value.TheVariants.{Nil}
 use Rattle.st_contexts.specs.declared.contexts.Slot.{Slot}
-use Rattle.st_contexts.specs.Stack.{Standing, standing_in, stands_in, outer_in, innermost_of, kept_of, env_of, operands_in, operands_of, operand_at, numbered_at, entry_in}
+use Rattle.st_contexts.specs.Stack.{standing_in, stands_in, outer_in, innermost_of, kept_of, env_of, operands_in, operands_of, operand_at, numbered_at, entry_in}
 use Rattle.st_contexts.specs.Marks.{entry_of}
 use Rattle.st_contexts.specs.Flat.{standing, standings, Windows, place_in}
 use Rattle.st_contexts.proofs.Flatten.{operand_in_window, no_operand_in_window}

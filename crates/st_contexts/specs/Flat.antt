@@ -1,5 +1,5 @@
 -- How a flat stack of activations is a list of them. Both lists of the stack are turned round, so that the innermost comes first.
-use Rattle.std.specs.Prelude.{ℕ, ◌*◌, ◌+◌, ◌≤◌, ◌<◌, ◌≡◌, List, [], ◌∷◌, length, take, drop, reverse, Option, Some, None, nat_eq, if◌then◌else◌}
+use Rattle.std.specs.Prelude.{ℕ, ◌*◌, ◌≤◌, ◌<◌, ◌≡◌, List, [], ◌∷◌, length, take, drop, reverse, Option, Some, None, nat_eq, if◌then◌else◌}
 use Rattle.object_heap.specs.declared.value.Value.{Value}
 use Rattle.st_contexts.specs.declared.contexts.Slot.{Slot}
 use Rattle.st_contexts.specs.Stack.{Standing, Stack}

@@ -1,4 +1,4 @@
-use Rattle.std.proofs.Common.{◌≡◌, ◌≤◌, ◌+◌, length, Some, None, reverse, sym, ◌∙◌, arith}
+use Rattle.std.proofs.Common.{◌≡◌, Some, None, reverse, sym, ◌∙◌, arith}
 use Rattle.st_contexts.specs.Flat.{place_in}
 use Rattle.st_contexts.proofs.Standing.{found_place, code_operand, code_operand_within, code_no_operand}
 use Rattle.st_contexts.proofs.contexts.Contexts.operand.Goals as goal

@@ -1,4 +1,4 @@
-use Rattle.std.proofs.Common.{◌≡◌, Some, None, reverse, sym, ◌∙◌, arith}
+use Rattle.std.proofs.Common.{◌≡◌, Some, None, reverse, sym, ◌∙◌}
 use Rattle.st_contexts.specs.Flat.{place_in}
 use Rattle.st_contexts.proofs.Standing.{code_stands, code_stands_not}
 use Rattle.st_contexts.proofs.contexts.Contexts.stands.Goals as goal
