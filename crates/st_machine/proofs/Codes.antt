@@ -1,6 +1,7 @@
 -- The code with a number, and the classes of a plan.
-use Rattle.std.proofs.Common.{◌≡◌, ℕ, suc, zero, ◌<◌, ◌≤◌, List, [], ◌∷◌, length, get_or, slice_get, map, Some, None, false, refl, sym, ◌∙◌, ap, arith}
-use Rattle.std.proofs.Math.ListN.{get_or-map}
+use Rattle.std.proofs.Common.{◌≡◌, ℕ, suc, zero, ◌<◌, ◌≤◌, List, [], ◌∷◌, length, get_or, slice_get, drop, map, max, Bool, true, false, nat_lt, if◌then◌else◌, Some, None, refl, sym, ◌∙◌, ap, arith}
+use Rattle.std.proofs.lemmas.List.{length-map, drop_all}
+use Rattle.std.proofs.lemmas.Bool.Decides.{nat_tests}
 use Rattle.std.proofs.lemmas.Option.{slice_get_past, slice_get-get_or}
 use Rattle.st_tree.specs.declared.units.Unit.{Unit}
 use Rattle.st_code.specs.declared.instruction.Code.{Code}
@@ -10,11 +11,12 @@ use Rattle.st_code.specs.Program.{ClassRow, NoIndexes, class_at}
 use Rattle.st_code.specs.Resolved.{ClassNames, no_names, class_names_at}
 use Rattle.st_code.specs.Definitions.{RunLimits, program_of, class_row}
 use Rattle.program_image.specs.declared.class.Class.{Class}
-use Rattle.program_image.specs.Classes.{seen_class}
+use Rattle.program_image.specs.declared.class.SharedVariable.{SharedVariable}
+use Rattle.program_image.specs.Classes.{seen_class, seen_variable}
 use Rattle.st_code.specs.Written.{named_units}
 use Rattle.program_image.specs.Spelled.{names_in}
 use Rattle.program_image.specs.Images.{image_program, image_names}
-use Rattle.st_rules.specs.Flat.{code_at, no_code}
+use Rattle.st_rules.specs.Flat.{code_at, no_code, greatest_width}
 
 abbrev no_class : ClassRow
 no_class = record { name = []; superclass = None; in_file = false; indexed = NoIndexes; slots = 0; class_slots = 0 }
@@ -68,3 +70,20 @@ instruction_past codes n k c l is lk = rw (code_in codes n c l is, slice_get_pas
 
 pub instruction_out : (codes : List Code) (n k : ℕ) → length codes ≤ n → None ≡ slice_get (code_at (map seen_code codes) n).instructions k
 instruction_out codes n k l = rw (code_out codes n l) refl
+
+pub variables_of : (units : List Unit) (limits : RunLimits) (shared : List SharedVariable) → map seen_variable shared ≡ (image_names units).shared → length shared ≡ (program_of (names_in (named_units units)) (named_units units) limits).variables
+unfolding program_of image_names
+variables_of units limits shared is = sym (length-map shared seen_variable) ∙ ap length is
+
+-- ---- the widest code
+
+wider : (b : Bool) (g w : ℕ) → nat_lt g w ≡ b → 8 ≤ g → 8 ≤ (if b then w else g)
+wider true g w e l = grind (arith, nat_tests)
+wider false g w e l = l
+
+pub at_least : (cs : List Compiled) → 8 ≤ greatest_width cs
+at_least [] = omega arith
+at_least (c ∷ cs) = wider (nat_lt (greatest_width cs) c.width) (greatest_width cs) c.width refl (at_least cs)
+
+pub width_end : (codes : List Code) (i g : ℕ) → length codes ≤ i → 8 ≤ g → g ≡ max g (greatest_width (map seen_code (drop i codes)))
+width_end codes i g l least = rw (drop_all i codes l) (omega (arith, least))

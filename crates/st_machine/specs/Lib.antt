@@ -4,3 +4,5 @@ pub mod Operands
 pub mod Scopes
 pub mod Instructions
 pub mod Opening
+pub mod Settling
+pub mod Steps

@@ -1,5 +1,6 @@
 // The instructions.
 ghost use Rattle.std.specs.Prelude.{◌≡◌, slice_get};
+ghost use Rattle.st_contexts.specs.Stack.{top_value};
 ghost use Rattle.st_rules.specs.Flat.{code_at};
 ghost use Rattle.st_machine.specs.Instructions.{value_delivered, variable_read, variable_written, stored, block_made, arguments_taken, sent, super_sent, answering, returned_home, operand_dropped, gone_on, performed, counted, next_performed, instructed};
 
@@ -33,6 +34,14 @@ impl<H: Heap> Machine<H> {
             }
             Variable::Shared(index) => argument(&self.variables, index as usize),
         }
+    }
+
+    // Pushes what a variable holds.
+    fn push_variable(&mut self, variable: Variable, frame: Frame)
+        ensures { self.new ≡ value_delivered frame (variable_read variable frame self.old) self.old }
+    {
+        let value = self.read(variable, frame);
+        self.push(frame, value);
     }
 
     // Writes a variable.
@@ -141,6 +150,14 @@ impl<H: Heap> Machine<H> {
         advance(&mut self.contexts, frame);
     }
 
+    // Pushes the last operand again.
+    fn dup(&mut self, frame: Frame)
+        ensures { self.new ≡ value_delivered frame (top_value self.old.stack) self.old }
+    {
+        let value = self.contexts.top();
+        deliver(&mut self.contexts, frame, value);
+    }
+
     // One instruction of the innermost body, as far as what it begins.
     fn perform(&mut self, instruction: Instruction, frame: Frame)
         ensures { self.new ≡ performed instruction frame self.old }
@@ -148,10 +165,10 @@ impl<H: Heap> Machine<H> {
         match instruction {
             Instruction::PushConstant(constant) => self.push(frame, constant.value()),
             Instruction::PushSelf => self.push(frame, frame.receiver),
-            Instruction::PushVariable(variable) => self.push(frame, self.read(variable, frame)),
+            Instruction::PushVariable(variable) => self.push_variable(variable, frame),
             Instruction::Store(variable) => self.store(variable, frame),
             Instruction::Pop => self.pop(frame),
-            Instruction::Dup => self.push(frame, self.contexts.top()),
+            Instruction::Dup => self.dup(frame),
             Instruction::Send { selector, count } => self.send(selector, count),
             Instruction::SuperSend { selector, count } => self.super_send(selector, count, frame),
             Instruction::MakeBlock(code) => self.make_block(code, frame),

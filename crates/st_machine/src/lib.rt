@@ -7,6 +7,7 @@ mod machine;
 mod opening;
 mod operands;
 mod scopes;
+mod settling;
 mod work;
 
 pub use loaded::{Limits, Loaded};

@@ -1,7 +1,8 @@
 // A program that is ready to run: its image, its code and the limits of its run.
-ghost use Rattle.std.specs.Prelude.{◌≡◌, ◌<◌, ◌^◌, [], length, get_or, slice_get, All};
+ghost use Rattle.std.specs.Prelude.{◌≡◌, ◌<◌, ◌^◌, [], length, map, slice_get};
 ghost use Rattle.st_rules.specs.Ends.{first_class_slot};
-ghost use Rattle.st_rules.specs.Flat.{code_at};
+ghost use Rattle.st_rules.specs.Flat.{code_at, greatest_width};
+ghost use Rattle.st_code.specs.Compiled.{seen_code};
 ghost use Rattle.st_code.specs.Program.{class_at};
 ghost use Rattle.program_image.specs.Images.{image_program};
 ghost use Rattle.st_machine.specs.Plans.{plan_of, program_in, AreShort};
@@ -61,6 +62,27 @@ impl Loaded {
         ensures { result ≡ (program_in self.now).step_limit }
     {
         self.limits.steps
+    }
+
+    /// How many activations may stand at once.
+    pub fn depth_limit(&self) -> u32
+        ensures { result ≡ (program_in self.now).depth_limit }
+    {
+        self.limits.depth
+    }
+
+    /// How many variables the program has.
+    pub fn variables(&self) -> usize
+        ensures { result ≡ (program_in self.now).variables }
+    {
+        self.image.shared().len()
+    }
+
+    /// How many operands its codes ask for at most, and at least 8.
+    pub fn width(&self) -> u32
+        ensures { result ≡ greatest_width self.now.codes }
+    {
+        greatest_width(&self.codes)
     }
 
     /// The place of the first class instance variable of a class among the program's variables.
@@ -129,4 +151,17 @@ fn class_slots(image: &Image, class: u32) -> u32
         return image.class(class).class_slots;
     }
     0
+}
+
+// How many operands these codes ask for at most, and at least 8.
+fn greatest_width(codes: &[Code]) -> u32
+    ensures { result ≡ greatest_width (map seen_code codes.now) }
+{
+    let mut greatest = 8;
+    for code in codes {
+        if greatest < code.width {
+            greatest = code.width;
+        }
+    }
+    greatest
 }

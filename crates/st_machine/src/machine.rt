@@ -1,13 +1,16 @@
 // The machine: its parts, and how it stands, stops and is asked.
-ghost use Rattle.std.specs.Prelude.{◌≡◌};
+ghost use Rattle.std.specs.Prelude.{◌≡◌, IfOk, IsTrue};
 ghost use Rattle.st_machine.specs.Seen.{Seen};
+ghost use Rattle.st_machine.specs.Steps.{first_seen, advanced, advance_told};
 ghost use Rattle.st_machine.specs.Opening.{stood, stood_number, stepped, has_step, settling, left_with};
 
 use crate::loaded::Loaded;
 use crate::operands::Passed;
-use crate::work::Mode;
+use crate::work::{Mode, Told};
 use object_heap::{Heap, Value};
+use st_base::OutOfMemory;
 use st_contexts::{Activation, Contexts, Env, Outcome};
+use std::alloc::Global;
 use std::marker::Model;
 
 /// A run of a program. Contracts see its parts.
@@ -41,11 +44,58 @@ impl<H: Heap> Model for Machine<H> {
 }
 
 impl<H: Heap> Machine<H> {
+    /// The machine at the beginning of a run over a heap, which holds the program's literals. All
+    /// memory is taken here.
+    pub fn open(alloc: Global, loaded: Loaded, heap: H) -> Result<Machine<H>, OutOfMemory>
+    where
+        H: Drop,
+        requires { IsTrue H.reserved }
+        ensures { IfOk result (λ m. m ≡ first_seen loaded (H.meaning heap)) }
+    {
+        let width = loaded.width();
+        let contexts = Contexts::new(alloc, loaded.depth_limit(), width)?;
+        let variables = vec![in alloc; Value::Nil; loaded.variables()]?;
+        let passed = Passed::new(alloc, width)?;
+        Ok(Machine {
+            loaded,
+            contexts,
+            heap,
+            variables,
+            passed,
+            mode: Mode::Next,
+            steps: 0,
+            deepest: 0,
+            initializers: 0,
+            instructions: 0,
+        })
+    }
+
     /// What comes next.
     pub fn mode(&self) -> Mode
         ensures { result ≡ self.now.mode }
     {
         self.mode
+    }
+
+    /// One small step, and the events that it tells. A work that begins something else than an
+    /// application, and a value with nothing standing, are left as they are.
+    pub fn advance(&mut self) -> Told
+        ensures stepped { self.new ≡ advanced self.old }
+        ensures told { result ≡ advance_told self.old }
+    {
+        match self.mode {
+            Mode::Run => {
+                self.instruct();
+                Told::Nothing
+            }
+            Mode::Settle(outcome) => self.settle(outcome),
+            Mode::Begin(work) => {
+                self.begin(work);
+                Told::Nothing
+            }
+            Mode::Next => Told::Nothing,
+            Mode::Ended(_) => Told::Nothing,
+        }
     }
 
     /// One more activation, unless as many stand as may. Answers its number.

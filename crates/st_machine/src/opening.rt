@@ -94,7 +94,7 @@ impl<H: Heap> Machine<H> {
     }
 
     /// A new body over what stands.
-    pub(crate) fn open(&mut self, opening: Opening)
+    pub(crate) fn open_body(&mut self, opening: Opening)
         ensures { self.new ≡ opened opening self.old }
     {
         let frame = opening.frame(self.contexts.next_number());
@@ -109,7 +109,7 @@ impl<H: Heap> Machine<H> {
         ensures { self.new ≡ activated closure env self.old }
     {
         if self.step() {
-            self.open(Opening::of_block(closure, env));
+            self.open_body(Opening::of_block(closure, env));
         } else {
             self.settle_with(Outcome::Stop(Limit::Steps));
         }
@@ -120,7 +120,7 @@ impl<H: Heap> Machine<H> {
         ensures { self.new ≡ entered code receiver env self.old }
     {
         let class = self.loaded.class(code);
-        self.open(Opening {
+        self.open_body(Opening {
             code,
             receiver,
             class,

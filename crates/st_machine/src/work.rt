@@ -81,6 +81,8 @@ pub enum Mode {
     /// An outcome reaches the innermost activation.
     Settle(Outcome),
     Begin(Work),
+    /// The next initializer is opened, or the run is done.
+    Next,
     Ended(Ending),
 }
 
