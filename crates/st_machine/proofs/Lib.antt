@@ -1,2 +1,5 @@
 pub mod Loops
 pub mod Codes
+pub mod Links
+pub mod FollowsInstructions
+pub mod Furnishing

@@ -20,7 +20,7 @@ use Rattle.st_contexts.specs.declared.outcome.Target.TheVariants.{Home}
 use Rattle.st_contexts.specs.declared.outcome.Limit.TheVariants as limit
 use Rattle.st_contexts.specs.Stack.{top_kept, top_env, top_value, value_popped, variable_of, with_variable, with_kept, stands_in}
 use Rattle.st_rules.specs.State.{scoped_variable, with_scoped_variable}
-use Rattle.st_rules.specs.Ends.{first_class_slot}
+use Rattle.st_rules.specs.Ends.{first_class_slot, with_self_slot}
 use Rattle.st_rules.specs.Flat.{code_at}
 use Rattle.st_machine.specs.declared.work.Mode.TheVariants.{Begin}
 use Rattle.st_machine.specs.declared.work.Work.{Work}
@@ -28,7 +28,7 @@ use Rattle.st_machine.specs.declared.work.Work.TheVariants.{SendTo, SuperTo, Fai
 use Rattle.st_machine.specs.Seen.{Seen, with_stack, with_memory, with_variables, with_passed, with_mode, passing}
 use Rattle.st_machine.specs.Plans.{program_in}
 use Rattle.st_machine.specs.Operands.{moved_on, delivered, taken}
-use Rattle.st_machine.specs.Scopes.{if_room, with_slot_of}
+use Rattle.st_machine.specs.Scopes.{if_room}
 use Rattle.st_machine.specs.Opening.{stopped, settling, left_with, beginning}
 
 abbrev pub value_delivered : Frame → Value → Seen → Seen
@@ -52,7 +52,7 @@ variable_read (Shared index) f s = get_or s.variables index Nil
 abbrev pub variable_written : Variable → Value → Frame → Seen → Seen
 variable_written (Own index) v f s = with_stack s (with_variable index v s.stack)
 variable_written (Scope up index) v f s = with_memory s (with_store (with_scoped_variable s.memory.store f.scope up index v) s.memory)
-variable_written (Instance index) v f s = with_memory s (with_store (with_slot_of f.receiver index v s.memory.store) s.memory)
+variable_written (Instance index) v f s = with_memory s (with_store (with_self_slot f.receiver index v s.memory.store) s.memory)
 variable_written (ClassInstance index) v f s = with_variables s (slice_set s.variables (class_slot_of f index s) v)
 variable_written (Shared index) v f s = with_variables s (slice_set s.variables index v)
 

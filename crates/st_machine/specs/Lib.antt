@@ -6,3 +6,5 @@ pub mod Instructions
 pub mod Opening
 pub mod Settling
 pub mod Steps
+pub mod Meaning
+pub mod Followed

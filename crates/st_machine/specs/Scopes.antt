@@ -1,8 +1,7 @@
 -- What becomes of the scopes and objects of the heap.
 use Rattle.std.specs.Prelude.{ℕ, suc, ◌+◌, Bool, true, false, List, [], ◌∷◌, length, Option, Some, None, nat_le, if◌then◌else◌}
 use Rattle.object_heap.specs.declared.value.Value.{Value}
-use Rattle.object_heap.specs.declared.value.Value.TheVariants.{Nil, Object}
-use Rattle.object_heap.specs.Store.{Store, with_slot, with_variable}
+use Rattle.object_heap.specs.Store.{Store, with_variable}
 use Rattle.object_heap.specs.Charges.{Memory, with_store, scope_charge}
 use Rattle.st_collections.specs.Actions.{first}
 use Rattle.st_machine.specs.Operands.{but_first}
@@ -16,8 +15,3 @@ captured_put (false ∷ captured) arguments scope place s = captured_put capture
 -- the number of a new block or scope, where its cells are there
 abbrev pub if_room : ℕ → ℕ → Memory → Option ℕ
 if_room charge number m = if nat_le (m.used + charge) m.limit then Some number else None
-
--- a write to a named slot
-abbrev pub with_slot_of : Value → ℕ → Value → Store → Store
-with_slot_of (Object number) slot v s = with_slot number slot v s
-with_slot_of self slot v s = s

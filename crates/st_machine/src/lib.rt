@@ -2,6 +2,7 @@
 #![tactic(auto)]
 
 mod instructions;
+pub mod law;
 mod loaded;
 mod machine;
 mod opening;

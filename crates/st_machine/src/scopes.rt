@@ -3,8 +3,9 @@ ghost use Rattle.std.specs.Prelude.{◌≡◌, ◌+◌, ◌<◌, ◌^◌, length
 ghost use Rattle.object_heap.specs.Charges.{with_store, closure_made, scope_made, scope_charge};
 ghost use Rattle.st_code.specs.BuiltIns.{block_class};
 ghost use Rattle.st_collections.specs.Kinds.{slot_of};
+ghost use Rattle.st_rules.specs.Ends.{with_self_slot};
 ghost use Rattle.st_rules.specs.State.{scope_up, scoped_variable, with_scoped_variable, count_true};
-ghost use Rattle.st_machine.specs.Scopes.{captured_put, if_room, with_slot_of};
+ghost use Rattle.st_machine.specs.Scopes.{captured_put, if_room};
 
 use crate::operands::argument;
 use object_heap::{Closure, Heap, Value};
@@ -60,7 +61,7 @@ pub fn slot<H: Heap>(heap: &H, receiver: Value, index: u32) -> Value
 }
 
 pub fn set_slot<H: Heap>(heap: &mut H, receiver: Value, index: u32, value: Value)
-    ensures { H.meaning heap.new ≡ with_store (with_slot_of receiver index value (H.meaning heap.old).store) (H.meaning heap.old) }
+    ensures { H.meaning heap.new ≡ with_store (with_self_slot receiver index value (H.meaning heap.old).store) (H.meaning heap.old) }
 {
     match receiver {
         Value::Object(number) => heap.put(number, index, value),
