@@ -3,3 +3,4 @@ pub mod Codes
 pub mod Links
 pub mod FollowsInstructions
 pub mod Furnishing
+pub mod FollowsOpening
