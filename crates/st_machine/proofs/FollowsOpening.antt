@@ -46,7 +46,7 @@ within_more : (n m : ℕ) → n ≤ m → nat_le (n + 0) m ≡ true
 within_more n m l = grind (arith, nat_tests)
 
 module _ (plan : Plan) (next depth width : ℕ) (vars : List Value) (passed : Passed) (steps deepest inits instrs : ℕ) (tr : Text) (ev : List Event) where
-  abbrev seen : List Standing → Memory → ℕ → ℕ → ℕ → Mode → Seen
+  abbrev pub seen : List Standing → Memory → ℕ → ℕ → ℕ → Mode → Seen
   seen acts mem next' steps' deepest' m = record { plan = plan; stack = record { acts = acts; next = next'; depth = depth; width = width }; memory = mem; variables = vars; passed = passed; mode = m; steps = steps'; deepest = deepest'; initializers = inits; instructions = instrs }
 
   abbrev p : Program

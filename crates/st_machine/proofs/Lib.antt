@@ -4,3 +4,5 @@ pub mod Links
 pub mod FollowsInstructions
 pub mod Furnishing
 pub mod FollowsOpening
+pub mod FollowsWorks
+pub mod FollowsSettling

@@ -90,11 +90,11 @@ is_signal_at None signal = false
 abbrev pub at_signal : ℕ → Stack → Bool
 at_signal signal s = is_signal_at (numbered_at 0 s.acts) signal
 
-abbrev default_outcome : Bool → ℕ → Value → Outcome
+abbrev pub default_outcome : Bool → ℕ → Value → Outcome
 default_outcome true resume v = Answer v
 default_outcome false resume v = Go (target.Resume resume) v
 
-abbrev outcome_in : Option ℕ → Bool → ℕ → Value → Outcome
+abbrev pub outcome_in : Option ℕ → Bool → ℕ → Value → Outcome
 outcome_in (Some entry) here resume v = Go (target.Protected entry) v
 outcome_in None here resume v = default_outcome here resume v
 
