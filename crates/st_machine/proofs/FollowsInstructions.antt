@@ -139,6 +139,6 @@ module _ (plan : Plan) (next depth width : ℕ) (mem : Memory) (vars : List Valu
       at_end : On (target_in (program_in plan) inits) (behind (program_in plan) inits) (flat_next (program_in plan) plan.codes width None (body_of acts f n env ops) (acts_of acts) (state_of tr ev here)) ≡ top_of tr ev (next_performed None f here)
       at_end = refl
 
-      next_by : (i : Option Instruction) → CountFits width i → On (target_in (program_in plan) inits) (behind (program_in plan) inits) (flat_next (program_in plan) plan.codes width i (body_of acts f n env ops) (acts_of acts) (state_of tr ev here)) ≡ top_of tr ev (next_performed i f here)
+      pub next_by : (i : Option Instruction) → CountFits width i → On (target_in (program_in plan) inits) (behind (program_in plan) inits) (flat_next (program_in plan) plan.codes width i (body_of acts f n env ops) (acts_of acts) (state_of tr ev here)) ≡ top_of tr ev (next_performed i f here)
       next_by None h = at_end
       next_by (Some i) h = instruct i h

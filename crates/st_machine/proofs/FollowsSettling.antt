@@ -38,7 +38,7 @@ use Rattle.st_machine.specs.Plans.{program_in}
 use Rattle.st_machine.specs.Opening.{left_with, beginning, settling}
 use Rattle.st_machine.specs.Settling.{at_home, at_outer, at_protect, receiver_again, signaled_instead, end_told, turn_outcome, at_signal, asked, asked_told, judged, without_top, answered_by, answer_told, unwound_by, unwinding_told, finished, again, outcome_in, default_outcome}
 use Rattle.st_machine.specs.Meaning.{top_of, state_of, acts_of, act_by, env_of, turn_of, search_of, entry_named, wait_of, outcome_of, target_of, events_of, target_in, behind}
-use Rattle.st_machine.specs.Followed.{TurnBelow, KeptBelow}
+use Rattle.st_machine.specs.Followed.{EntryBelow, TurnBelow, KeptBelow}
 use Rattle.st_machine.proofs.Links.{other_number, env_skip, turn_skip, signal_same, env_here}
 use Rattle.st_machine.proofs.FollowsOpening.{marks_length}
 
@@ -69,6 +69,18 @@ outer_same n (target.Retry m) v = refl
 outer_same n (target.RetryWith m) v = refl
 outer_same n (target.Resignal m e) v = refl
 outer_same n target.Terminate v = refl
+
+-- some small steps
+pub record Comes (plan : Plan) (width : ℕ) (from to : Top FlatBody) : Type 0 where
+  pub count : ℕ
+  pub comes : top_iter (flat (program_in plan) plan.codes width) (program_in plan) count from ≡ to
+
+entry_further : (n m : ℕ) (entry : Option ℕ) → n < m → EntryBelow n entry → EntryBelow m entry
+entry_further n m None l h = tt
+entry_further n m (Some e) l h = let further : e < m = omega (arith, l, h) in further
+
+pub turn_further : (n m : ℕ) (t : linked.Turn) → n < m → TurnBelow n t → TurnBelow m t
+turn_further n m t l h = ((let further : t.outside.0 < m = omega (arith, l, h.0) in further), entry_further n m t.entry l h.1)
 
 module _ (plan : Plan) (next depth width : ℕ) (vars : List Value) (passed : Passed) (steps deepest inits instrs : ℕ) (tr : Text) (ev : List Event) (mem : Memory) (m : Mode) where
   abbrev p : Program
@@ -194,3 +206,95 @@ module _ (plan : Plan) (next depth width : ℕ) (vars : List Value) (passed : Pa
 
       judges : (x : SearchState) (entry : ℕ) → Answers 0 (act.HandlesWait x entry)
       judges x entry = judges_by x entry (is_true v) refl
+
+      -- a value at any activation
+      pub value_law : (k : Activation) → KeptBelow n k → n < next → next < 2 ^ 64 - 1 → depth ≡ p.depth_limit → Comes plan width (goes (give (flat p plan.codes width) p v (act_by k n env ops acts) (acts_of acts) state)) (top_of tr (ev ++ events_of (answer_told k n v (over k))) (answered_by k n env v (over k)))
+      value_law (act.Body f) h l numbers same_depth = record { count = 0; comes = body_answers f (let moves : min (f.position + 1) (2 ^ 32 - 1) ≡ f.position + 1 = omega (arith, h) in moves) }
+      value_law (act.Leaving f) h l numbers same_depth = record { count = 0; comes = leaving_answers f }
+      value_law (act.Protect r s t) h l numbers same_depth = record { count = 0; comes = protect_answers r s t }
+      value_law (act.EnsureOn block) h l numbers same_depth = record { count = 1; comes = ensure_answers block }
+      value_law (act.CurtailOn block) h l numbers same_depth = record { count = 0; comes = curtail_answers block }
+      value_law (act.ActionOff held) h l numbers same_depth = record { count = 0; comes = action_answers held }
+      value_law (act.Signal e) h l numbers same_depth = record { count = 0; comes = signal_answers e }
+      value_law (act.HandlerRun t) h l numbers same_depth = record { count = 0; comes = turn_answers t }
+      value_law act.Outer h l numbers same_depth = record { count = 0; comes = outer_answers }
+      value_law (act.ResumeWait w k t) h l numbers same_depth = record { count = 0; comes = asks k t (turn_further n next t l h) numbers same_depth (is_true v) w }
+      value_law (act.HandlesWait x entry) h l numbers same_depth = record { count = 0; comes = judges x entry }
+      value_law (act.Loop state) h l numbers same_depth = record { count = 0; comes = loop_answers state }
+
+      -- ---- an unwinding
+
+      module _ (t : aim.Target) where
+        abbrev Unwinds : Activation → Type 0
+        Unwinds k = Comes plan width (goes (unwind (flat p plan.codes width) p (target_of t) v (act_by k n env ops acts) (acts_of acts) state)) (top_of tr (ev ++ events_of (unwinding_told k n t v)) (unwound_by k n env t v (over k)))
+
+        at_once : (x y : Top FlatBody) → x ≡ y → Comes plan width x y
+        at_once x y e = record { count = 0; comes = e }
+
+        body_unwinds : (f : Frame) → Unwinds (act.Body f)
+        body_unwinds f = record { count = 0; comes = rw (home_same n t v, append-nil ev) refl }
+
+        leaving_unwinds : (f : Frame) → Unwinds (act.Leaving f)
+        leaving_unwinds f = record { count = 0; comes = rw (home_same n t v, append-nil ev) refl }
+
+        outer_unwinds : Unwinds act.Outer
+        outer_unwinds = record { count = 0; comes = rw (outer_same n t v) (end_law (stand act.Outer) acts n (at_outer n t v)) }
+
+        wait_unwinds : (w : waiting.Wait) (k : ℕ) (turn : linked.Turn) → Unwinds (act.ResumeWait w k turn)
+        wait_unwinds w k turn = record { count = 0; comes = untold (left_with (outcome.Go t v) (over (act.ResumeWait w k turn))) }
+
+        loop_unwinds : (l : LoopState) → Unwinds (act.Loop l)
+        loop_unwinds l = record { count = 0; comes = untold (left_with (outcome.Go t v) (over (act.Loop l))) }
+
+      retries : (m : ℕ) (r s h : Value) (b : Bool) → nat_eq m n ≡ b → Unwinds (target.Retry m) (act.Protect r s h)
+      retries m r s h true is = record { count = 1; comes = rw is (again_law (act.Protect r s h) r s h) }
+      retries m r s h false is = record { count = 0; comes = rw is refl }
+
+      retries_with : (m : ℕ) (r s h : Value) (b : Bool) → nat_eq m n ≡ b → Unwinds (target.RetryWith m) (act.Protect r s h)
+      retries_with m r s h true is = record { count = 1; comes = rw is (again_law (act.Protect r s h) v s h) }
+      retries_with m r s h false is = record { count = 0; comes = rw is refl }
+
+      returns_by : (m : ℕ) (r s h : Value) (b : Bool) → nat_eq m n ≡ b → Unwinds (target.Protected m) (act.Protect r s h)
+      returns_by m r s h true is = record { count = 0; comes = rw is refl }
+      returns_by m r s h false is = record { count = 0; comes = rw is refl }
+
+      protect_unwinds : (t : aim.Target) (r s h : Value) → Unwinds t (act.Protect r s h)
+      protect_unwinds (target.Home m) r s h = record { count = 0; comes = refl }
+      protect_unwinds (target.Protected m) r s h = returns_by m r s h (nat_eq m n) refl
+      protect_unwinds (target.Retry m) r s h = retries m r s h (nat_eq m n) refl
+      protect_unwinds (target.RetryWith m) r s h = retries_with m r s h (nat_eq m n) refl
+      protect_unwinds (target.Resume m) r s h = record { count = 0; comes = refl }
+      protect_unwinds (target.Resignal m e) r s h = record { count = 0; comes = refl }
+      protect_unwinds target.Terminate r s h = record { count = 0; comes = refl }
+
+      resumes_by : (m e : ℕ) (b : Bool) → nat_eq m n ≡ b → Unwinds (target.Resume m) (act.Signal e)
+      resumes_by m e true is = record { count = 0; comes = rw is refl }
+      resumes_by m e false is = record { count = 0; comes = rw is refl }
+
+      instead_by : (m f e : ℕ) (b : Bool) → nat_eq m n ≡ b → Unwinds (target.Resignal m f) (act.Signal e)
+      instead_by m f e true is = record { count = 1; comes = rw is (instead_law e f) }
+      instead_by m f e false is = record { count = 0; comes = rw is refl }
+
+      signal_unwinds : (t : aim.Target) (e : ℕ) → Unwinds t (act.Signal e)
+      signal_unwinds (target.Home m) e = record { count = 0; comes = refl }
+      signal_unwinds (target.Protected m) e = record { count = 0; comes = refl }
+      signal_unwinds (target.Retry m) e = record { count = 0; comes = refl }
+      signal_unwinds (target.RetryWith m) e = record { count = 0; comes = refl }
+      signal_unwinds (target.Resume m) e = resumes_by m e (nat_eq m n) refl
+      signal_unwinds (target.Resignal m f) e = instead_by m f e (nat_eq m n) refl
+      signal_unwinds target.Terminate e = record { count = 0; comes = refl }
+
+      -- an unwinding at any activation
+      pub unwinding_law : (t : aim.Target) (k : Activation) → Unwinds t k
+      unwinding_law t (act.Body f) = body_unwinds t f
+      unwinding_law t (act.Leaving f) = leaving_unwinds t f
+      unwinding_law t (act.Protect r s h) = protect_unwinds t r s h
+      unwinding_law t (act.EnsureOn block) = record { count = 1; comes = finish_law (act.EnsureOn block) block (outcome.Go t v) }
+      unwinding_law t (act.CurtailOn block) = record { count = 1; comes = finish_law (act.CurtailOn block) block (outcome.Go t v) }
+      unwinding_law t (act.ActionOff held) = record { count = 0; comes = refl }
+      unwinding_law t (act.Signal e) = signal_unwinds t e
+      unwinding_law t (act.HandlerRun turn) = record { count = 0; comes = refl }
+      unwinding_law t act.Outer = outer_unwinds t
+      unwinding_law t (act.ResumeWait w k turn) = wait_unwinds t w k turn
+      unwinding_law t (act.HandlesWait x entry) = record { count = 0; comes = refl }
+      unwinding_law t (act.Loop l) = loop_unwinds t l

@@ -6,3 +6,4 @@ pub mod Furnishing
 pub mod FollowsOpening
 pub mod FollowsWorks
 pub mod FollowsSettling
+pub mod Follows
