@@ -1,10 +1,8 @@
 -- A step of a machine that is ready is some small steps of the flat machine.
-use Rattle.std.proofs.Common.{◌≡◌, ℕ, suc, zero, ◌+◌, ◌-◌, ◌<◌, ◌≤◌, ◌^◌, min, List, [], ◌∷◌, ◌++◌, Bool, true, false, slice_get, Option, Some, None, refl, ap, sym, ◌∙◌, arith}
+use Rattle.std.proofs.Common.{◌≡◌, ℕ, suc, ◌+◌, ◌-◌, ◌^◌, min, List, [], ◌∷◌, ◌++◌, slice_get, ap, sym, ◌∙◌, arith}
 use Rattle.std.proofs.lemmas.List.{append-nil}
 use Rattle.object_heap.specs.declared.value.Value.{Value}
-use Rattle.object_heap.specs.Charges.{Memory}
 use Rattle.st_code.specs.Texts.{Text}
-use Rattle.st_code.specs.Compiled.{compile_of}
 use Rattle.st_contexts.specs.declared.activation.Activation.{Activation}
 use Rattle.st_contexts.specs.declared.activation.Activation.TheVariants as act
 use Rattle.st_contexts.specs.declared.activation.Env.{Env}
@@ -21,14 +19,13 @@ use Rattle.st_machine.specs.declared.work.Mode.{Mode}
 use Rattle.st_machine.specs.declared.work.Mode.TheVariants as mode
 use Rattle.st_machine.specs.declared.work.Work.{Work}
 use Rattle.st_machine.specs.declared.work.Work.TheVariants as work
-use Rattle.st_machine.specs.Seen.{Plan, Passed, Seen}
-use Rattle.st_machine.specs.Plans.{program_in}
+use Rattle.st_machine.specs.Seen.{Seen}
 use Rattle.st_machine.specs.Steps.{advanced, advance_told}
 use Rattle.st_machine.specs.Meaning.{top_of, events_of}
-use Rattle.st_machine.specs.Followed.{Ready, Leads, Below, CountFits}
+use Rattle.st_machine.specs.Followed.{Ready, Leads}
 use Rattle.st_machine.proofs.FollowsInstructions.{next_by}
 use Rattle.st_machine.proofs.FollowsWorks.{applies, activates, enters}
-use Rattle.st_machine.proofs.FollowsSettling.{Comes, value_law, unwinding_law}
+use Rattle.st_machine.proofs.FollowsSettling.{value_law, unwinding_law}
 
 -- the machine with these activations and this mode
 abbrev with : Seen → List Standing → Mode → Seen
@@ -54,8 +51,8 @@ module _ (tr : Text) (ev : List Event) where
       record {
         count = 1;
         leads =
-          next_by s.plan s.stack.next s.stack.depth s.stack.width s.memory s.variables s.passed s.steps s.deepest s.initializers (min (s.instructions + 1) (2 ^ 64 - 1)) tr ev f n env ops acts moves r.falling.0.env r.cells r.passes (slice_get (code_at s.plan.codes f.code).instructions f.position) (r.roomy.counts f.code f.position)
-          ∙ untold (advanced (with s (record { number = n; kept = act.Body f; env = env; operands = ops } ∷ acts) mode.Run));
+            next_by s.plan s.stack.next s.stack.depth s.stack.width s.memory s.variables s.passed s.steps s.deepest s.initializers (min (s.instructions + 1) (2 ^ 64 - 1)) tr ev f n env ops acts moves r.falling.0.env r.cells r.passes (slice_get (code_at s.plan.codes f.code).instructions f.position) (r.roomy.counts f.code f.position)
+            ∙ untold (advanced (with s (record { number = n; kept = act.Body f; env = env; operands = ops } ∷ acts) mode.Run));
       }
 
   runs_top : (s : Seen) (k : Activation) (n : ℕ) (env : Env) (ops : List Value) (acts : List Standing) → Follows (with s (record { number = n; kept = k; env = env; operands = ops } ∷ acts) mode.Run)

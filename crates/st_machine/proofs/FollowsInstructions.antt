@@ -1,31 +1,28 @@
 -- Each instruction is one small step of the flat machine.
-use Rattle.std.proofs.Common.{◌≡◌, ℕ, suc, zero, ◌+◌, ◌-◌, ◌<◌, ◌≤◌, ◌^◌, min, List, [], ◌∷◌, Bool, true, false, nat_eq, nat_le, Option, Some, None, slice_get, refl, ap, sym, ◌∙◌, arith, subst}
+use Rattle.std.proofs.Common.{◌≡◌, ℕ, suc, zero, ◌+◌, ◌-◌, ◌<◌, ◌≤◌, ◌^◌, min, List, [], ◌∷◌, Bool, true, false, nat_le, Option, Some, None, refl, ap, sym, arith}
 use Rattle.object_heap.specs.declared.value.Value.{Value}
 use Rattle.object_heap.specs.declared.value.Value.TheVariants.{Nil}
 use Rattle.st_code.specs.declared.instruction.Constant.{Constant}
 use Rattle.object_heap.specs.Charges.{Memory}
 use Rattle.st_code.specs.Texts.{Text}
-use Rattle.st_code.specs.Compiled.{Compiled}
 use Rattle.st_code.specs.declared.instruction.Variable.{Variable}
 use Rattle.st_code.specs.declared.instruction.Variable.TheVariants as variable
 use Rattle.st_code.specs.declared.instruction.Instruction.{Instruction}
 use Rattle.st_code.specs.declared.instruction.Instruction.TheVariants as instruction
-use Rattle.st_contexts.specs.declared.activation.Activation.{Activation}
 use Rattle.st_contexts.specs.declared.activation.Activation.TheVariants as act
 use Rattle.st_contexts.specs.declared.activation.Frame.{Frame}
 use Rattle.st_contexts.specs.declared.activation.Env.{Env}
-use Rattle.st_contexts.specs.Stack.{Standing, Stack, value_popped, top_value, stands_in}
+use Rattle.st_contexts.specs.Stack.{Standing, stands_in}
 use Rattle.st_rules.specs.Events.{Event}
-use Rattle.st_rules.specs.State.{State, BodyMark, used, stands}
-use Rattle.st_rules.specs.Ends.{write_place}
-use Rattle.st_rules.specs.Machine.{Mach, Act, BodyAct, marks}
-use Rattle.st_rules.specs.Flat.{FlatBody, flat, flat_number, flat_instruction, flat_next, operand_at, with_operand, with_flat_block, operands_taken, Operands, instruction_at, flat_sent, flat_super_sent, but_last}
-use Rattle.st_rules.specs.Turns.{Top, On, top_step}
+use Rattle.st_rules.specs.State.{BodyMark, used, stands}
+use Rattle.st_rules.specs.Machine.{marks}
+use Rattle.st_rules.specs.Flat.{flat_number, flat_instruction, flat_next, operand_at, with_operand, with_flat_block, operands_taken, but_last}
+use Rattle.st_rules.specs.Turns.{On}
 use Rattle.st_machine.specs.declared.work.Mode.TheVariants as mode
 use Rattle.st_machine.specs.Seen.{Plan, Passed, Seen}
 use Rattle.st_machine.specs.Plans.{program_in}
-use Rattle.st_machine.specs.Operands.{Taken, taken}
-use Rattle.st_machine.specs.Instructions.{performed, variable_written, variable_read, instructed, next_performed}
+use Rattle.st_machine.specs.Operands.{taken}
+use Rattle.st_machine.specs.Instructions.{performed, next_performed}
 use Rattle.st_machine.specs.Meaning.{top_of, state_of, body_of, acts_of, target_in, behind, env_of}
 use Rattle.st_machine.specs.Followed.{CountFits}
 use Rattle.st_machine.proofs.Links.{env_skip, stands_same}

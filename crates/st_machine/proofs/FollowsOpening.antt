@@ -1,39 +1,32 @@
 -- An application and the activation of a block or a method are small steps of the flat machine.
-use Rattle.std.proofs.Common.{◌≡◌, ℕ, suc, zero, ◌+◌, ◌-◌, ◌<◌, ◌≤◌, ◌^◌, List, [], ◌∷◌, ◌++◌, length, reverse, replicate, Bool, true, false, nat_eq, nat_le, nat_lt, max, Option, Some, None, refl, ap, sym, ◌∙◌, arith}
+use Rattle.std.proofs.Common.{◌≡◌, ℕ, suc, zero, ◌+◌, ◌-◌, ◌<◌, ◌≤◌, ◌^◌, List, [], ◌∷◌, length, reverse, Bool, true, false, nat_eq, nat_le, max, refl, ap, sym, ◌∙◌, arith}
 use Rattle.std.proofs.lemmas.List.{append-nil}
 use Rattle.std.proofs.lemmas.Bool.Decides.{nat_tests}
 use Rattle.object_heap.specs.declared.value.Value.{Value}
-use Rattle.object_heap.specs.declared.value.Value.TheVariants as value
-use Rattle.object_heap.specs.declared.value.Closure.{Closure}
-use Rattle.object_heap.specs.Store.{Store, scope_added, blank_scope}
+use Rattle.object_heap.specs.Store.{scope_added, blank_scope}
 use Rattle.object_heap.specs.Charges.{Memory}
 use Rattle.st_code.specs.Texts.{Text}
-use Rattle.st_code.specs.Program.{Program, Kind, InBlock, InMethod, body_at}
-use Rattle.st_code.specs.Compiled.{Compiled, compile_of, any_captured, count_uncaptured}
+use Rattle.st_code.specs.Program.{Program, Kind, body_at}
+use Rattle.st_code.specs.Compiled.{compile_of, any_captured, count_uncaptured}
 use Rattle.st_contexts.specs.declared.activation.Activation.TheVariants as act
 use Rattle.st_contexts.specs.declared.activation.Frame.{Frame}
-use Rattle.st_contexts.specs.declared.activation.Env.{Env}
-use Rattle.st_contexts.specs.Stack.{Standing, Stack}
+use Rattle.st_contexts.specs.Stack.{Standing}
 use Rattle.st_rules.specs.Events.{Event}
-use Rattle.st_rules.specs.State.{State, CellLimit, stood, used, step_made, count_true, scope_cells, first_variables}
+use Rattle.st_rules.specs.State.{State, CellLimit, stood, used, count_true, scope_cells, first_variables}
 use Rattle.st_rules.specs.Ends.{Opening}
-use Rattle.st_rules.specs.ExceptionRows.{closure_of, parameters_of}
-use Rattle.st_rules.specs.Rules.{closure_for}
-use Rattle.st_rules.specs.Machine.{Mach, Run, stopped, open_act, begin, marks}
+use Rattle.st_rules.specs.Machine.{Mach, Run, stopped, open_act, marks}
 use Rattle.st_rules.specs.Flat.{FlatBody, flat, flat_number, code_at, own_variables, captured_variables}
-use Rattle.st_rules.specs.Turns.{Top, On, top_step}
+use Rattle.st_rules.specs.Turns.{Top, On}
 use Rattle.st_machine.specs.declared.work.Mode.{Mode}
-use Rattle.st_machine.specs.declared.work.Mode.TheVariants as mode
-use Rattle.st_machine.specs.declared.work.Work.TheVariants as work
 use Rattle.st_machine.specs.declared.opening.Opening as new
 use Rattle.st_machine.specs.Seen.{Plan, Passed, Seen}
 use Rattle.st_machine.specs.Plans.{program_in}
 use Rattle.st_machine.specs.Operands.{own_pushed}
 use Rattle.st_machine.specs.Scopes.{captured_put}
-use Rattle.st_machine.specs.Opening.{opened, furnished, furnished_with, own_furnished, filled, frame_for, home_or, in_scope, activated, entered, applied, fitting, closure_in}
+use Rattle.st_machine.specs.Opening.{opened, frame_for, home_or, in_scope}
 use Rattle.st_machine.specs.Meaning.{top_of, state_of, body_of, acts_of, target_in, behind, env_of}
 use Rattle.st_machine.proofs.Links.{other_number}
-use Rattle.st_machine.proofs.Furnishing.{same_captured, same_class, same_parameters, none_captured, some_captured, own_operands, captured_values}
+use Rattle.st_machine.proofs.Furnishing.{same_captured, none_captured, some_captured, own_operands, captured_values}
 
 pub marks_length : (acts : List Standing) → length (marks flat_number (acts_of acts)) ≡ length acts
 marks_length [] = refl
@@ -111,14 +104,14 @@ module _ (plan : Plan) (next depth width : ℕ) (vars : List Value) (passed : Pa
     no_cells_right k e counted room = rw (other_number next 18446744073709551615 numbers, e, counted, not_zero k, room) refl
 
     scoped_left : (k : ℕ) → nat_le (length acts + 1) p.depth_limit ≡ true → count_true (body_at p x.code).captured ≡ suc k → nat_le (mem.used + suc (suc k)) p.cell_limit ≡ true → any_captured cap ≡ true
-      → goes (open_act (flat p plan.codes width) p flat_opening (acts_of acts) (state_of tr ev here))
-      ≡ goes (Run (body_of acts scope_frame next x.env (reverse (own_variables cap (first_variables cap passed.values)))) (acts_of acts) (record { store = scope_added (record { code = x.code; outer = x.outer; variables = captured_variables cap (first_variables cap passed.values) }) mem.store; variables = vars; transcript = tr; events = ev; steps = steps; depth = max deepest (length acts + 1); cells = mem.used + suc (suc k); next = next + 1 }))
+        → goes (open_act (flat p plan.codes width) p flat_opening (acts_of acts) (state_of tr ev here))
+        ≡ goes (Run (body_of acts scope_frame next x.env (reverse (own_variables cap (first_variables cap passed.values)))) (acts_of acts) (record { store = scope_added (record { code = x.code; outer = x.outer; variables = captured_variables cap (first_variables cap passed.values) }) mem.store; variables = vars; transcript = tr; events = ev; steps = steps; depth = max deepest (length acts + 1); cells = mem.used + suc (suc k); next = next + 1 }))
     unfolding stood used scope_cells
     scoped_left k e' counted' room' some = rw (marks_length acts, e', counted', room', some) refl
 
     scoped_right : (k : ℕ) → nat_le (length acts + 1) depth ≡ true → count_true cap ≡ suc k → nat_le (mem.used + (1 + suc k)) mem.limit ≡ true
-      → goes (Run (body_of acts scope_frame next x.env (reverse (own_variables cap (first_variables cap passed.values)))) (acts_of acts) (record { store = scope_added (record { code = x.code; outer = x.outer; variables = captured_variables cap (first_variables cap passed.values) }) mem.store; variables = vars; transcript = tr; events = ev; steps = steps; depth = max deepest (length acts + 1); cells = mem.used + (1 + suc k); next = next + 1 }))
-      ≡ top_of tr ev (opened x here)
+        → goes (Run (body_of acts scope_frame next x.env (reverse (own_variables cap (first_variables cap passed.values)))) (acts_of acts) (record { store = scope_added (record { code = x.code; outer = x.outer; variables = captured_variables cap (first_variables cap passed.values) }) mem.store; variables = vars; transcript = tr; events = ev; steps = steps; depth = max deepest (length acts + 1); cells = mem.used + (1 + suc k); next = next + 1 }))
+        ≡ top_of tr ev (opened x here)
     scoped_right k e counted room = rw (other_number next 18446744073709551615 numbers, e, counted, not_zero k, room, scope_store k counted, scope_stack) refl
 
     by_room : (k : ℕ) (b : Bool) → nat_le (length acts + 1) depth ≡ true → count_true cap ≡ suc k → nat_le (mem.used + (1 + suc k)) mem.limit ≡ b → Law

@@ -1,5 +1,5 @@
 -- An outcome at the innermost activation is one or two small steps of the flat machine.
-use Rattle.std.proofs.Common.{◌≡◌, ℕ, suc, zero, ◌+◌, ◌-◌, ◌<◌, ◌≤◌, ◌^◌, min, max, List, [], ◌∷◌, ◌++◌, length, Bool, true, false, nat_eq, nat_le, if◌then◌else◌, Option, Some, None, refl, ap, sym, ◌∙◌, arith}
+use Rattle.std.proofs.Common.{◌≡◌, ℕ, ◌+◌, ◌-◌, ◌<◌, ◌^◌, min, List, [], ◌∷◌, ◌++◌, length, Bool, true, false, nat_eq, nat_le, if◌then◌else◌, Option, Some, None, refl, ap, sym, arith}
 use Rattle.std.specs.Option.{option_map}
 use Rattle.std.proofs.lemmas.List.{append-nil, append_assoc}
 use Rattle.object_heap.specs.declared.value.Value.{Value}
@@ -17,27 +17,25 @@ use Rattle.st_contexts.specs.declared.activation.Wait as waiting
 use Rattle.st_contexts.specs.declared.activation.Wait.TheVariants as wait
 use Rattle.st_contexts.specs.declared.activation.SearchState.{SearchState}
 use Rattle.st_contexts.specs.declared.activation.LoopState.{LoopState}
-use Rattle.st_contexts.specs.declared.activation.Purpose.TheVariants as purpose
 use Rattle.st_contexts.specs.declared.outcome.Outcome as hand
 use Rattle.st_contexts.specs.declared.outcome.Outcome.TheVariants as outcome
 use Rattle.st_contexts.specs.declared.outcome.Target as aim
 use Rattle.st_contexts.specs.declared.outcome.Target.TheVariants as target
-use Rattle.st_contexts.specs.Stack.{Standing, Stack}
+use Rattle.st_contexts.specs.Stack.{Standing}
 use Rattle.st_rules.specs.Events.{Event}
-use Rattle.st_rules.specs.State.{State, Entry, Mark, Outcome, Answer, Go, stood, told, is_at_signal}
+use Rattle.st_rules.specs.State.{State, Entry, Mark, Answer, Go, stood, told, is_at_signal}
 use Rattle.st_rules.specs.Rules.{Apply, Raise}
 use Rattle.st_rules.specs.Ends as rules
-use Rattle.st_rules.specs.Machine.{Act, BodyAct, Leaving, ProtectAct, EnsureOn, CurtailOn, ActionOff, SignalAct, HandlerRun, OuterAct, ResumeWait, HandlesWait, LoopAct, Mach, Run, Settle, Begin, give, unwind, asked_act, tried_act, marks}
+use Rattle.st_rules.specs.Machine.{ProtectAct, ActionOff, SignalAct, Mach, Settle, Begin, give, unwind, asked_act, marks}
 use Rattle.st_rules.specs.Flat.{FlatBody, flat, flat_number}
-use Rattle.st_rules.specs.Turns.{Top, On, top_step, top_iter}
+use Rattle.st_rules.specs.Turns.{Top, On, top_iter}
 use Rattle.st_machine.specs.declared.work.Mode.{Mode}
-use Rattle.st_machine.specs.declared.work.Told.{Told}
 use Rattle.st_machine.specs.declared.work.Work.TheVariants as work
 use Rattle.st_machine.specs.Seen.{Plan, Passed, Seen}
 use Rattle.st_machine.specs.Plans.{program_in}
 use Rattle.st_machine.specs.Opening.{left_with, beginning, settling}
-use Rattle.st_machine.specs.Settling.{at_home, at_outer, at_protect, receiver_again, signaled_instead, end_told, turn_outcome, at_signal, asked, asked_told, judged, without_top, answered_by, answer_told, unwound_by, unwinding_told, finished, again, outcome_in, default_outcome}
-use Rattle.st_machine.specs.Meaning.{top_of, state_of, acts_of, act_by, env_of, turn_of, search_of, entry_named, wait_of, outcome_of, target_of, events_of, target_in, behind}
+use Rattle.st_machine.specs.Settling.{at_home, at_outer, end_told, turn_outcome, at_signal, asked, asked_told, answered_by, answer_told, unwound_by, unwinding_told, finished, again, outcome_in, default_outcome}
+use Rattle.st_machine.specs.Meaning.{top_of, state_of, acts_of, act_by, env_of, turn_of, entry_named, wait_of, outcome_of, target_of, events_of, target_in, behind}
 use Rattle.st_machine.specs.Followed.{EntryBelow, TurnBelow, KeptBelow}
 use Rattle.st_machine.proofs.Links.{other_number, env_skip, turn_skip, signal_same, env_here}
 use Rattle.st_machine.proofs.FollowsOpening.{marks_length}
@@ -113,12 +111,12 @@ module _ (plan : Plan) (next depth width : ℕ) (vars : List Value) (passed : Pa
 
     -- a termination block runs
     finish_law : (k : Activation) (block : Value) (held : hand.Outcome)
-      → goes (Begin (Apply block [] (env_of acts env)) (ActionOff n (outcome_of held) ∷ acts_of acts) (told (Event.Action n) state)) ≡ top_of tr (ev ++ Event.Action n ∷ []) (finished block held env (over k))
+        → goes (Begin (Apply block [] (env_of acts env)) (ActionOff n (outcome_of held) ∷ acts_of acts) (told (Event.Action n) state)) ≡ top_of tr (ev ++ Event.Action n ∷ []) (finished block held env (over k))
     finish_law k block held = rw (env_skip (stand (act.ActionOff held)) acts env below) refl
 
     again_law : (k : Activation) (receiver selector handler : Value)
-      → goes (Begin (Apply receiver [] (record { number = n; selector = selector; handler = handler } ∷ env_of acts env)) (ProtectAct receiver (record { number = n; selector = selector; handler = handler }) (env_of acts env) ∷ acts_of acts) (told (Event.Again n) state))
-      ≡ top_of tr (ev ++ Event.Again n ∷ []) (again n receiver selector handler (over k))
+        → goes (Begin (Apply receiver [] (record { number = n; selector = selector; handler = handler } ∷ env_of acts env)) (ProtectAct receiver (record { number = n; selector = selector; handler = handler }) (env_of acts env) ∷ acts_of acts) (told (Event.Again n) state))
+        ≡ top_of tr (ev ++ Event.Again n ∷ []) (again n receiver selector handler (over k))
     again_law k receiver selector handler = rw (env_here n receiver selector handler env ops acts below) refl
 
     instead_law : (e f : ℕ) → goes (Begin (Raise f (env_of acts env)) (SignalAct n e (env_of acts env) ∷ acts_of acts) state) ≡ top_of tr (ev ++ []) (beginning (work.Raise f env) (over (act.Signal e)))
@@ -159,7 +157,7 @@ module _ (plan : Plan) (next depth width : ℕ) (vars : List Value) (passed : Pa
       default_same false resume = refl
 
       outcome_same : (entry : Option ℕ) (b : Bool) (resume signal exception : ℕ) (outside : List Entry) (standing : List Mark) → is_at_signal signal standing ≡ b
-        → rules.turn_value (record { exception = exception; entry = option_map (entry_named acts) entry; outside = outside; resume_point = resume; signal = signal }) standing v ≡ outcome_of (outcome_in entry b resume v)
+          → rules.turn_value (record { exception = exception; entry = option_map (entry_named acts) entry; outside = outside; resume_point = resume; signal = signal }) standing v ≡ outcome_of (outcome_in entry b resume v)
       unfolding entry_named
       outcome_same None b resume signal exception outside standing is = rw is (default_same b resume)
       outcome_same (Some entry) b resume signal exception outside standing is = refl

@@ -1,9 +1,9 @@
 -- The beginning of an application or an activation is one small step of the flat machine.
-use Rattle.std.proofs.Common.{◌≡◌, ℕ, suc, zero, ◌+◌, ◌-◌, ◌<◌, ◌≤◌, ◌^◌, List, [], ◌∷◌, length, Bool, true, false, nat_eq, nat_lt, Option, Some, None, refl, ap, sym, ◌∙◌}
+use Rattle.std.proofs.Common.{◌≡◌, ℕ, ◌+◌, ◌-◌, ◌<◌, ◌≤◌, ◌^◌, List, length, Bool, true, false, nat_eq, nat_lt, Option, Some, None, refl, ap, sym, ◌∙◌}
 use Rattle.object_heap.specs.declared.value.Value.{Value}
 use Rattle.object_heap.specs.declared.value.Value.TheVariants as value
 use Rattle.object_heap.specs.declared.value.Closure.{Closure}
-use Rattle.object_heap.specs.Store.{Store, closure_at}
+use Rattle.object_heap.specs.Store.{closure_at}
 use Rattle.object_heap.specs.Charges.{Memory}
 use Rattle.st_code.specs.Texts.{Text}
 use Rattle.st_code.specs.Program.{Program, InBlock, InMethod, body_at}
@@ -22,9 +22,8 @@ use Rattle.st_machine.specs.declared.work.Work.{Work}
 use Rattle.st_machine.specs.declared.work.Work.TheVariants as work
 use Rattle.st_machine.specs.Seen.{Plan, Passed, Seen}
 use Rattle.st_machine.specs.Plans.{program_in}
-use Rattle.st_machine.specs.Opening.{opened, block_opening, activated, entered, applied, fitting, begun}
+use Rattle.st_machine.specs.Opening.{block_opening, begun}
 use Rattle.st_machine.specs.Meaning.{top_of, state_of, acts_of, env_of, target_in, behind}
-use Rattle.st_machine.specs.Followed.{Leads}
 use Rattle.st_machine.proofs.Furnishing.{same_class, same_parameters}
 use Rattle.st_machine.proofs.FollowsOpening.{seen, opens}
 

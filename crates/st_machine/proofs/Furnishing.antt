@@ -1,5 +1,5 @@
 -- The variables of a body that is opened: captured ones in its scope, the others as operands.
-use Rattle.std.proofs.Common.{◌≡◌, ℕ, suc, zero, ◌+◌, ◌<◌, ◌≤◌, List, [], ◌∷◌, ◌++◌, length, reverse, replicate, get_or, slice_set, Bool, true, false, nat_lt, nat_eq, Option, Some, None, if◌then◌else◌, refl, ap, sym, ◌∙◌, arith}
+use Rattle.std.proofs.Common.{◌≡◌, ℕ, suc, zero, ◌+◌, ◌<◌, ◌≤◌, List, [], ◌∷◌, ◌++◌, length, reverse, replicate, get_or, slice_set, Bool, true, false, nat_lt, Option, None, refl, ap, ◌∙◌, arith}
 use Rattle.std.proofs.lemmas.List.{reverse-append, append_assoc, length-append}
 use Rattle.std.proofs.lemmas.Bool.Decides.{nat_tests}
 use Rattle.object_heap.specs.declared.value.Value.{Value}
@@ -8,7 +8,7 @@ use Rattle.object_heap.specs.declared.value.Closure.{Closure}
 use Rattle.object_heap.specs.Store.{Store, Scope, Object, no_scope, with_variable}
 use Rattle.st_code.specs.Program.{Program, Body, InBlock, body_at}
 use Rattle.st_code.specs.Compiled.{Compiled, any_captured, count_uncaptured, compiled_from, compiled_body, compile_of}
-use Rattle.st_contexts.specs.Stack.{Stack, Standing}
+use Rattle.st_contexts.specs.Stack.{Standing}
 use Rattle.st_rules.specs.State.{first_variables, count_true}
 use Rattle.st_rules.specs.Flat.{own_variables, captured_variables, code_at, no_code}
 use Rattle.st_machine.specs.Operands.{own_pushed}

@@ -1,5 +1,5 @@
 -- What links name stays the same where activations come to stand further in.
-use Rattle.std.proofs.Common.{◌≡◌, ℕ, suc, zero, ◌+◌, ◌<◌, ◌≢◌, List, [], ◌∷◌, map, Bool, true, false, nat_eq, Option, Some, None, refl, ap, sym, ◌∙◌, arith}
+use Rattle.std.proofs.Common.{◌≡◌, ℕ, suc, zero, ◌<◌, List, [], ◌∷◌, map, true, false, nat_eq, Option, Some, None, refl, ap, sym, ◌∙◌, arith}
 use Rattle.std.specs.Option.{option_map}
 use Rattle.std.proofs.lemmas.Bool.Decides.{nat_tests}
 use Rattle.object_heap.specs.declared.value.Value.{Value}
@@ -7,14 +7,13 @@ use Rattle.st_contexts.specs.declared.activation.Activation.{Activation}
 use Rattle.st_contexts.specs.declared.activation.Activation.TheVariants as act
 use Rattle.st_contexts.specs.declared.activation.Env.{Env}
 use Rattle.st_contexts.specs.declared.activation.Turn as linked
-use Rattle.st_contexts.specs.declared.activation.Entry.{Entry}
 use Rattle.st_contexts.specs.Stack.{Standing, env_in, entry_in, standing_in, stands_in}
-use Rattle.st_rules.specs.State.{Mark, number_of_mark, stands, is_at_signal}
+use Rattle.st_rules.specs.State.{number_of_mark, stands, is_at_signal}
 use Rattle.st_rules.specs.Machine.{mark_of, marks}
-use Rattle.st_rules.specs.Flat.{FlatBody, flat_number}
+use Rattle.st_rules.specs.Flat.{flat_number}
 use Rattle.st_machine.specs.Settling.{at_signal}
 use Rattle.st_machine.specs.Followed.{EntryBelow, TurnBelow}
-use Rattle.st_machine.specs.Meaning.{env_of, entry_named, entry_seen, act_by, act_of, acts_of, turn_of, search_of, purpose_of}
+use Rattle.st_machine.specs.Meaning.{env_of, entry_named, entry_seen, act_by, acts_of, turn_of}
 
 pub other_number : (n m : ℕ) → n < m → nat_eq n m ≡ false
 other_number n m l = grind (arith, nat_tests)
@@ -70,7 +69,6 @@ pub stands_same : (n : ℕ) (acts : List Standing) → stands n (marks flat_numb
 unfolding stands stands_in
 stands_same n [] = refl
 stands_same n (a ∷ acts) = rw (mark_number a.kept a.number a.env a.operands acts, stands_same n acts) refl
-
 
 -- ---- turns
 

@@ -1,5 +1,5 @@
 -- What the loops over operands, scopes and variables keep.
-use Rattle.std.proofs.Common.{◌≡◌, ℕ, suc, zero, ◌+◌, ◌-◌, ◌<◌, ◌≤◌, List, [], ◌∷◌, ◌++◌, length, get_or, drop, reverse, Bool, true, false, Option, Some, None, refl, ap, sym, ◌∙◌, arith}
+use Rattle.std.proofs.Common.{◌≡◌, ℕ, suc, zero, ◌+◌, ◌-◌, ◌<◌, ◌≤◌, List, [], ◌∷◌, ◌++◌, length, get_or, drop, reverse, Bool, true, false, Option, Some, None, refl, ap, arith}
 use Rattle.std.proofs.lemmas.List.{drop_more, drop_all, reverse-append}
 use Rattle.object_heap.specs.declared.value.Value.{Value}
 use Rattle.object_heap.specs.declared.value.Value.TheVariants.{Nil}
@@ -8,7 +8,7 @@ use Rattle.object_heap.specs.Charges.{Memory, with_store}
 use Rattle.st_contexts.specs.Stack.{Stack, value_pushed, value_popped, top_value}
 use Rattle.st_collections.specs.Actions.{first}
 use Rattle.st_rules.specs.State.{scope_up, count_true}
-use Rattle.st_machine.specs.Operands.{Taken, taken, but_first, own_pushed}
+use Rattle.st_machine.specs.Operands.{taken, but_first, own_pushed}
 use Rattle.st_machine.specs.Scopes.{captured_put}
 
 -- ---- operands that are taken

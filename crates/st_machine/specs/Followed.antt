@@ -1,8 +1,8 @@
 -- The law of the machine: what it does is what the flat machine does.
-use Rattle.std.specs.Prelude.{◌≡◌, ℕ, ◌+◌, ◌-◌, ◌<◌, ◌≤◌, ◌^◌, List, [], ◌∷◌, ◌++◌, slice_get, Option, Some, None}
+use Rattle.std.specs.Prelude.{◌≡◌, ℕ, ◌-◌, ◌<◌, ◌≤◌, ◌^◌, List, [], ◌∷◌, ◌++◌, slice_get, Option, Some, None}
 use Rattle.st_code.specs.Texts.{Text}
 use Rattle.st_code.specs.declared.instruction.Instruction.{Instruction}
-use Rattle.st_code.specs.declared.instruction.Instruction.TheVariants.{PushConstant, PushSelf, PushVariable, Store, Pop, Dup, Send, SuperSend, MakeBlock, MethodReturn, HomeReturn, BlockEnd}
+use Rattle.st_code.specs.declared.instruction.Instruction.TheVariants.{Send, SuperSend}
 use Rattle.st_code.specs.Compiled.{Compiled, compile_of, count_uncaptured}
 use Rattle.st_contexts.specs.declared.activation.Activation.{Activation}
 use Rattle.st_contexts.specs.declared.activation.Activation.TheVariants as act

@@ -1,5 +1,5 @@
 -- What an instruction makes of the machine.
-use Rattle.std.specs.Prelude.{ℕ, ◌+◌, ◌-◌, ◌^◌, min, Bool, true, false, List, [], length, get_or, slice_get, slice_set, Option, Some, None}
+use Rattle.std.specs.Prelude.{ℕ, ◌+◌, ◌-◌, ◌^◌, min, Bool, true, false, [], length, get_or, slice_get, slice_set, Option, Some, None}
 use Rattle.object_heap.specs.declared.value.Value.{Value}
 use Rattle.object_heap.specs.declared.value.Value.TheVariants.{Nil, Object}
 use Rattle.object_heap.specs.declared.value.Closure.{Closure}
@@ -22,10 +22,9 @@ use Rattle.st_contexts.specs.Stack.{top_kept, top_env, top_value, value_popped, 
 use Rattle.st_rules.specs.State.{scoped_variable, with_scoped_variable}
 use Rattle.st_rules.specs.Ends.{first_class_slot, with_self_slot}
 use Rattle.st_rules.specs.Flat.{code_at}
-use Rattle.st_machine.specs.declared.work.Mode.TheVariants.{Begin}
 use Rattle.st_machine.specs.declared.work.Work.{Work}
 use Rattle.st_machine.specs.declared.work.Work.TheVariants.{SendTo, SuperTo, Fail}
-use Rattle.st_machine.specs.Seen.{Seen, with_stack, with_memory, with_variables, with_passed, with_mode, passing}
+use Rattle.st_machine.specs.Seen.{Seen, with_stack, with_memory, with_variables, with_passed, passing}
 use Rattle.st_machine.specs.Plans.{program_in}
 use Rattle.st_machine.specs.Operands.{moved_on, delivered, taken}
 use Rattle.st_machine.specs.Scopes.{if_room}

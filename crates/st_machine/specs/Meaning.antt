@@ -1,5 +1,5 @@
 -- Which state of the flat machine a machine's parts stand for. Links become the environments that they name, numbers of entries the entries.
-use Rattle.std.specs.Prelude.{ℕ, ◌-◌, Bool, true, false, List, [], ◌∷◌, map, length, get_or, drop, Option, Some, None}
+use Rattle.std.specs.Prelude.{ℕ, ◌-◌, List, [], ◌∷◌, map, length, drop, Option, Some, None}
 use Rattle.std.specs.Option.{option_map}
 use Rattle.object_heap.specs.declared.value.Value.{Value}
 use Rattle.object_heap.specs.declared.value.Value.TheVariants.{Nil}
@@ -31,7 +31,7 @@ use Rattle.st_contexts.specs.declared.outcome.Limit as stop
 use Rattle.st_contexts.specs.declared.outcome.Limit.TheVariants as limit
 use Rattle.st_contexts.specs.declared.watch.Event as seen
 use Rattle.st_contexts.specs.declared.watch.Event.TheVariants as event
-use Rattle.st_contexts.specs.Stack.{Stack, Standing, env_in, entry_in, outer_acts}
+use Rattle.st_contexts.specs.Stack.{Standing, env_in, entry_in, outer_acts}
 use Rattle.st_rules.specs.Events.{Event}
 use Rattle.st_rules.specs.State.{State, Entry, Env, Target, Home, Protected, Retry, RetryWith, Resume, Resignal, Terminate, Limit, StepLimit, DepthLimit, CellLimit, IntegerLimit, Outcome, Answer, Go, Stop, Turn}
 use Rattle.st_rules.specs.Ends.{Purpose, ForSignal, ForPass, ForOuter, ForNested, Search, Wait, ToResume, ToOuter}

@@ -1,5 +1,5 @@
 -- How activations come to stand: the counts of steps and depth, and a body with its variables.
-use Rattle.std.specs.Prelude.{ℕ, ◌+◌, ◌-◌, ◌^◌, max, Bool, true, false, List, length, Option, Some, None, nat_eq, nat_lt, nat_le, if◌then◌else◌}
+use Rattle.std.specs.Prelude.{ℕ, ◌+◌, ◌-◌, ◌^◌, max, Bool, false, List, length, Option, Some, None, nat_eq, nat_lt, nat_le, if◌then◌else◌}
 use Rattle.object_heap.specs.declared.value.Value.{Value}
 use Rattle.object_heap.specs.declared.value.Value.TheVariants.{Object}
 use Rattle.object_heap.specs.declared.value.Closure.{Closure}
@@ -80,8 +80,8 @@ own_furnished f s = with_mode (with_stack s (own_pushed (captured_in s f.code) s
 abbrev pub filled : Frame → ℕ → Seen → Seen
 filled f scope s =
     own_furnished f (with_stack
-      (with_memory s (with_store (captured_put (captured_in s f.code) s.passed.values scope 0 s.memory.store) s.memory))
-      (with_kept (Body (in_scope scope f)) s.stack))
+    (with_memory s (with_store (captured_put (captured_in s f.code) s.passed.values scope 0 s.memory.store) s.memory))
+    (with_kept (Body (in_scope scope f)) s.stack))
 
 abbrev pub scope_furnished : Option ℕ → Frame → Seen → Seen
 scope_furnished (Some scope) f s = filled f scope s

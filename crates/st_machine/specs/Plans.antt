@@ -1,5 +1,5 @@
 -- The program of a file with its limits and code.
-use Rattle.std.specs.Prelude.{ℕ, ◌<◌, ◌^◌, List, length, map, All}
+use Rattle.std.specs.Prelude.{◌<◌, ◌^◌, List, length, map, All}
 use Rattle.st_tree.specs.declared.units.Unit.{Unit}
 use Rattle.st_code.specs.declared.instruction.Code.{Code}
 use Rattle.st_code.specs.Compiled.{seen_code}

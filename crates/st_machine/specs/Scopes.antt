@@ -1,8 +1,8 @@
 -- What becomes of the scopes and objects of the heap.
-use Rattle.std.specs.Prelude.{ℕ, suc, ◌+◌, Bool, true, false, List, [], ◌∷◌, length, Option, Some, None, nat_le, if◌then◌else◌}
+use Rattle.std.specs.Prelude.{ℕ, suc, ◌+◌, Bool, true, false, List, [], ◌∷◌, Option, Some, None, nat_le, if◌then◌else◌}
 use Rattle.object_heap.specs.declared.value.Value.{Value}
 use Rattle.object_heap.specs.Store.{Store, with_variable}
-use Rattle.object_heap.specs.Charges.{Memory, with_store, scope_charge}
+use Rattle.object_heap.specs.Charges.{Memory}
 use Rattle.st_collections.specs.Actions.{first}
 use Rattle.st_machine.specs.Operands.{but_first}
 

@@ -1,8 +1,7 @@
 -- What the machine is seen as: its program, what stands, the heap, and its counts.
 use Rattle.std.specs.Prelude.{ℕ, List}
 use Rattle.object_heap.specs.declared.value.Value.{Value}
-use Rattle.object_heap.specs.Store.{Store}
-use Rattle.object_heap.specs.Charges.{Memory, with_store}
+use Rattle.object_heap.specs.Charges.{Memory}
 use Rattle.st_tree.specs.declared.units.Unit.{Unit}
 use Rattle.st_code.specs.Compiled.{Compiled}
 use Rattle.st_contexts.specs.Stack.{Stack}

@@ -1,5 +1,5 @@
 -- What the innermost activation makes of an outcome, and the events that it tells.
-use Rattle.std.specs.Prelude.{ℕ, ◌+◌, Bool, true, false, List, [], ◌∷◌, Option, Some, None, nat_eq, if◌then◌else◌}
+use Rattle.std.specs.Prelude.{ℕ, Bool, true, false, [], Option, Some, None, nat_eq, if◌then◌else◌}
 use Rattle.object_heap.specs.declared.value.Value.{Value}
 use Rattle.object_heap.specs.declared.trouble.Trouble.TheVariants.{NotResumable}
 use Rattle.st_collections.specs.Kinds.{is_true}
@@ -8,7 +8,6 @@ use Rattle.st_contexts.specs.declared.activation.Activation.TheVariants as act
 use Rattle.st_contexts.specs.declared.activation.Env.{Env}
 use Rattle.st_contexts.specs.declared.activation.Numbered.{Numbered}
 use Rattle.st_contexts.specs.declared.activation.Turn.{Turn}
-use Rattle.st_contexts.specs.declared.activation.LoopState.{LoopState}
 use Rattle.st_contexts.specs.declared.activation.SearchState.{SearchState}
 use Rattle.st_contexts.specs.declared.activation.Purpose.{Purpose}
 use Rattle.st_contexts.specs.declared.activation.Purpose.TheVariants as purpose
@@ -21,13 +20,12 @@ use Rattle.st_contexts.specs.declared.outcome.Target.TheVariants as target
 use Rattle.st_contexts.specs.declared.outcome.Limit.{Limit}
 use Rattle.st_contexts.specs.declared.outcome.Limit.TheVariants as limit
 use Rattle.st_contexts.specs.declared.watch.Event.TheVariants as event
-use Rattle.st_contexts.specs.Stack.{Stack, Standing, popped, with_kept, numbered_at}
+use Rattle.st_contexts.specs.Stack.{Stack, popped, with_kept, numbered_at}
 use Rattle.st_machine.specs.declared.work.Told.{Told}
 use Rattle.st_machine.specs.declared.work.Told.TheVariants.{Nothing, One, Two}
 use Rattle.st_machine.specs.declared.work.Mode.TheVariants.{Run, Ended}
 use Rattle.st_machine.specs.declared.work.Ending.{Ending}
 use Rattle.st_machine.specs.declared.work.Ending.TheVariants as ending
-use Rattle.st_machine.specs.declared.work.Work.{Work}
 use Rattle.st_machine.specs.declared.work.Work.TheVariants as work
 use Rattle.st_machine.specs.Seen.{Seen, with_stack, with_passed, with_mode, passing}
 use Rattle.st_machine.specs.Opening.{has_place, stood, stopped, settling, left_with, beginning}

@@ -1,5 +1,5 @@
 -- The machine at the beginning of a run, and one small step of it.
-use Rattle.std.specs.Prelude.{ℕ, List, [], replicate}
+use Rattle.std.specs.Prelude.{[], replicate}
 use Rattle.object_heap.specs.declared.value.Value.TheVariants.{Nil}
 use Rattle.object_heap.specs.Charges.{Memory}
 use Rattle.st_contexts.specs.Stack.{new_stack}

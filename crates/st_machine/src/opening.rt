@@ -62,7 +62,11 @@ impl<H: Heap> Machine<H> {
     fn furnish_own(&mut self, frame: Frame)
         ensures { self.new ≡ own_furnished frame self.old }
     {
-        push_own(&mut self.contexts, self.loaded.captured(frame.code), self.passed.values());
+        push_own(
+            &mut self.contexts,
+            self.loaded.captured(frame.code),
+            self.passed.values(),
+        );
         self.mode = Mode::Run;
     }
 
@@ -70,7 +74,12 @@ impl<H: Heap> Machine<H> {
     fn fill(&mut self, frame: Frame, scope: u32)
         ensures { self.new ≡ filled frame scope self.old }
     {
-        put_captured(&mut self.heap, scope, self.loaded.captured(frame.code), self.passed.values());
+        put_captured(
+            &mut self.heap,
+            scope,
+            self.loaded.captured(frame.code),
+            self.passed.values(),
+        );
         self.contexts.set_frame(Frame {
             scope: Some(scope),
             ..frame

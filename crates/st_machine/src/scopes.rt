@@ -123,12 +123,7 @@ pub fn make_scope<H: Heap>(
 }
 
 /// The variables that a block names, in a new scope: the arguments, and nil behind them.
-pub fn put_captured<H: Heap>(
-    heap: &mut H,
-    scope: u32,
-    captured: &[bool],
-    arguments: &[Value],
-)
+pub fn put_captured<H: Heap>(heap: &mut H, scope: u32, captured: &[bool], arguments: &[Value])
     requires { length captured.now < 2 ^ 32 }
     ensures { H.meaning heap.new ≡ with_store (captured_put captured.now arguments.now scope 0 (H.meaning heap.old).store) (H.meaning heap.old) }
 {

@@ -316,7 +316,10 @@ impl<H: Heap> Machine<H> {
         } else {
             self.mode = Mode::Begin(Work::Search { search, rest });
         }
-        Told::Two(Event::End { number, cut: false }, Event::Tried { entry, fits })
+        Told::Two(
+            Event::End { number, cut: false },
+            Event::Tried { entry, fits },
+        )
     }
 
     // A loop gets a value, and still stands.
@@ -383,13 +386,7 @@ impl<H: Heap> Machine<H> {
     }
 
     // This exception is signaled at a signal, or that is dropped.
-    fn signal_by(
-        &mut self,
-        other: Option<u32>,
-        number: u64,
-        outcome: Outcome,
-        env: Env,
-    ) -> Told
+    fn signal_by(&mut self, other: Option<u32>, number: u64, outcome: Outcome, env: Env) -> Told
         ensures signaled { self.new ≡ signaled_by other outcome env self.old }
         ensures told { result ≡ signaled_told other number outcome }
     {

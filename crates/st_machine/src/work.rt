@@ -20,11 +20,20 @@ pub enum Ending {
 #[derive(Clone, Copy, Debug, PartialEq, Eq)]
 pub enum Work {
     /// The receiver is applied to the arguments.
-    Apply { receiver: Value, env: Env },
+    Apply {
+        receiver: Value,
+        env: Env,
+    },
     /// `value` and its kin are sent to the receiver.
-    SendValue { receiver: Value, env: Env },
+    SendValue {
+        receiver: Value,
+        env: Env,
+    },
     /// A block is activated.
-    Activate { closure: Closure, env: Env },
+    Activate {
+        closure: Closure,
+        env: Env,
+    },
     /// The method with this code is activated.
     Enter {
         code: u32,
@@ -44,13 +53,25 @@ pub enum Work {
         env: Env,
     },
     /// An Error with the text of this trouble is signaled.
-    Fail { trouble: Trouble, env: Env },
+    Fail {
+        trouble: Trouble,
+        env: Env,
+    },
     /// An exception is signaled that is there.
-    Raise { exception: u32, env: Env },
+    Raise {
+        exception: u32,
+        env: Env,
+    },
     /// A new exception of this class is signaled. The arguments are its slots.
-    RaiseNew { class: u32, env: Env },
+    RaiseNew {
+        class: u32,
+        env: Env,
+    },
     /// The rest of an environment is searched for an entry that handles.
-    Search { search: SearchState, rest: Env },
+    Search {
+        search: SearchState,
+        rest: Env,
+    },
     /// A turn runs the handler of this entry or, where there is none, the default action.
     TurnBy {
         search: SearchState,

@@ -1,7 +1,5 @@
-use Rattle.std.proofs.Common.{◌≡◌, ◌≤◌, map, max, length, drop, refl, ap, sym, ◌∙◌, arith}
-use Rattle.std.proofs.lemmas.List.{drop_all}
+use Rattle.std.proofs.Common.{map, ◌∙◌, arith}
 use Rattle.st_code.specs.Compiled.{seen_code}
-use Rattle.st_rules.specs.Flat.{greatest_width}
 use Rattle.st_machine.proofs.Codes.{at_least, width_end}
 use Rattle.st_machine.proofs.loaded.greatest_width.Goals as goal
 

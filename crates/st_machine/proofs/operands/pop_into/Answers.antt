@@ -1,4 +1,4 @@
-use Rattle.std.proofs.Common.{refl, sym, ◌∙◌, ap, arith, rules}
+use Rattle.std.proofs.Common.{sym, ◌∙◌, ap, arith}
 use Rattle.st_machine.specs.Operands.{Taken}
 use Rattle.st_machine.proofs.Loops.{taken_step, taken_end}
 use Rattle.st_machine.proofs.operands.pop_into.Goals as goal

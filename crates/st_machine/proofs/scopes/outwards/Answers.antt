@@ -1,4 +1,4 @@
-use Rattle.std.proofs.Common.{sym, ◌∙◌, ap}
+use Rattle.std.proofs.Common.{sym, ◌∙◌}
 use Rattle.st_machine.proofs.Loops.{up_step, up_none, up_end}
 use Rattle.st_machine.proofs.scopes.outwards.Goals as goal
 

@@ -1,6 +1,5 @@
-use Rattle.std.proofs.Common.{◌≡◌, ◌<◌, ◌≤◌, length, refl, sym, ◌∙◌, ap, arith, None}
-use Rattle.st_code.specs.Compiled.{Compiled, seen_code}
-use Rattle.st_rules.specs.Flat.{code_at, no_code}
+use Rattle.std.proofs.Common.{◌<◌, ◌≤◌, length, sym, ap, arith}
+use Rattle.st_code.specs.Compiled.{Compiled}
 use Rattle.st_machine.proofs.Codes.{code_in, code_out}
 use Rattle.st_machine.proofs.loaded.Loaded.parameters.Goals as goal
 

@@ -1,4 +1,3 @@
-use Rattle.std.proofs.Common.{refl}
 use Rattle.st_machine.specs.Plans.{limits_of}
 use Rattle.st_machine.proofs.Codes.{variables_of}
 use Rattle.st_machine.proofs.loaded.Loaded.variables.Goals as goal
