@@ -6,12 +6,12 @@ use Rattle.st_code.specs.Texts.{Text}
 use Rattle.st_code.specs.Program as program
 use Rattle.st_code.specs.Program.{Program, InInitializer}
 use Rattle.st_code.specs.Compiled.{compile_of, count_uncaptured}
-use Rattle.st_contexts.specs.Stack.{Standing, env_in}
+use Rattle.st_contexts.specs.Stack.{env_in}
 use Rattle.st_contexts.specs.declared.outcome.Outcome.TheVariants as outcome
 use Rattle.st_rules.specs.Events.{Event}
 use Rattle.st_rules.specs.State.{Env}
 use Rattle.st_rules.specs.Ends.{Opening}
-use Rattle.st_rules.specs.Machine.{Mach, open_act}
+use Rattle.st_rules.specs.Machine.{open_act}
 use Rattle.st_rules.specs.Flat.{FlatBody, flat, code_at}
 use Rattle.st_rules.specs.Runs.{kept_value}
 use Rattle.st_rules.specs.Turns.{Top, On, open_next, top_iter}
