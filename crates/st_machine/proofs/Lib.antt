@@ -8,3 +8,4 @@ pub mod FollowsWorks
 pub mod FollowsInitializers
 pub mod FollowsSettling
 pub mod Follows
+pub mod Telling

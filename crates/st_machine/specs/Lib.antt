@@ -7,5 +7,6 @@ pub mod Opening
 pub mod Initializers
 pub mod Settling
 pub mod Steps
+pub mod Running
 pub mod Meaning
 pub mod Followed

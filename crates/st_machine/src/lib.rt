@@ -8,12 +8,14 @@ mod loaded;
 mod machine;
 mod opening;
 mod operands;
+mod running;
 mod scopes;
 mod settling;
 mod work;
 
 pub use loaded::{Initializer, Limits, Loaded};
 pub use machine::Machine;
+pub use running::{Progress, Stats};
 pub use work::{Ending, Mode, Told, Work};
 
 #[cfg(test)]
