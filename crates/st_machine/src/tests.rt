@@ -2,7 +2,7 @@
 ghost use Rattle.std.specs.Prelude.{◌<◌, ◌^◌, length, IfOk};
 ghost use Rattle.st_machine.specs.Plans.{AreShort};
 
-use super::{Ending, Initializer, Limits, Loaded, Machine, Mode, Told, Work};
+use super::{Ending, Initializer, Limits, Loaded, Machine, Mode, Progress, Told, Work};
 use crate::operands::argument;
 use crate::scopes::shared;
 use cell_heap::CellHeap;
@@ -169,8 +169,8 @@ fn codes(alloc: Global, row: &Row) -> Result<Vec<Code>, OutOfMemory>
     Ok(codes)
 }
 
-// A global variable, and its initializer.
-fn loaded(alloc: Global, row: &Row, limits: Limits) -> Result<Loaded, OutOfMemory> {
+// A global variable, and so many initializers of it.
+fn loaded(alloc: Global, row: &Row, count: usize, limits: Limits) -> Result<Loaded, OutOfMemory> {
     let mut units = UnitList::new(alloc);
     units.push(Unit {
         kind: UnitKind::GlobalVariable(Text::from_bytes(alloc, b"Bank")?),
@@ -181,7 +181,7 @@ fn loaded(alloc: Global, row: &Row, limits: Limits) -> Result<Loaded, OutOfMemor
         receiver: Value::Nil,
         target: Some(0),
     };
-    let initializers = vec![in alloc; initializer; 1]?;
+    let initializers = vec![in alloc; initializer; count]?;
     let image = build(alloc, Definition { units })?;
     Ok(Loaded::new(image, codes(alloc, row)?, initializers, limits))
 }
@@ -226,7 +226,7 @@ fn small_codes_run(rt: HostRuntime) -> Result<(), Fail> {
         cells: 9,
     };
     for row in &ROWS {
-        let loaded = loaded(rt.alloc(), row, limits)?;
+        let loaded = loaded(rt.alloc(), row, 1, limits)?;
         let heap = CellHeap::new(rt.alloc(), limits.cells, 0)?;
         let mut machine = Machine::open(rt.alloc(), loaded, heap)?;
         assert_eq!(rt; drive(&mut machine), row.events);
@@ -234,6 +234,53 @@ fn small_codes_run(rt: HostRuntime) -> Result<(), Fail> {
         assert_eq!(rt; shared(&machine.variables, 0, 0), Value::Integer(row.value));
         assert_eq!(rt; machine.heap.used(), row.cells);
         assert_eq!(rt; machine.deepest, row.depth);
+    }
+    Ok(())
+}
+
+// So many turns of two initializers with five instructions each, and how far they come.
+struct Turns {
+    turns: u64,
+    progress: Progress,
+    instructions: u64,
+}
+
+static TURNS: [Turns; 4] = [
+    Turns {
+        turns: 3,
+        progress: Progress::Running,
+        instructions: 3,
+    },
+    Turns {
+        turns: 2,
+        progress: Progress::Running,
+        instructions: 5,
+    },
+    Turns {
+        turns: 9,
+        progress: Progress::Ended(Ending::Done),
+        instructions: 10,
+    },
+    Turns {
+        turns: 1,
+        progress: Progress::Ended(Ending::Done),
+        instructions: 10,
+    },
+];
+
+#[test]
+fn initializers_run_one_behind_the_other(rt: HostRuntime) -> Result<(), Fail> {
+    let limits = Limits {
+        steps: 10,
+        depth: 3,
+        cells: 9,
+    };
+    let loaded = loaded(rt.alloc(), &ROWS[0], 2, limits)?;
+    let heap = CellHeap::new(rt.alloc(), limits.cells, 0)?;
+    let mut machine = Machine::open(rt.alloc(), loaded, heap)?;
+    for row in &TURNS {
+        assert_eq!(rt; machine.go(row.turns), row.progress);
+        assert_eq!(rt; machine.stats().instructions, row.instructions);
     }
     Ok(())
 }
