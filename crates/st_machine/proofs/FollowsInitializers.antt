@@ -20,7 +20,7 @@ use Rattle.st_machine.specs.declared.work.Mode.{Mode}
 use Rattle.st_machine.specs.declared.work.Mode.TheVariants as mode
 use Rattle.st_machine.specs.Seen.{Plan, Passed, Seen, passing, with_mode}
 use Rattle.st_machine.specs.Plans.{program_in}
-use Rattle.st_machine.specs.Initializers.{seen_initializer, opened_by, next_opened, target_by, target_on, kept_at, value_kept}
+use Rattle.st_machine.specs.Initializers.{seen_initializer, opened_by, next_opened, target_by, kept_at, value_kept}
 use Rattle.st_machine.specs.Meaning.{top_of, state_of, target_in, behind, env_of}
 use Rattle.st_machine.proofs.Furnishing.{same_class}
 use Rattle.st_machine.proofs.FollowsOpening.{seen, opens}

@@ -1,6 +1,6 @@
 use Rattle.std.proofs.Common.{◌≡◌, false, true, sym, ◌∙◌, ap, arith}
 use Rattle.st_machine.specs.Seen.{Seen}
-use Rattle.st_machine.specs.Running.{goes_on, left_after, gone_told}
+use Rattle.st_machine.specs.Running.{goes_on, left_after}
 use Rattle.st_machine.proofs.Telling.{gone_stops, gone_ends, stands_on, tells_on, breaks_off, told_all, told_most, on_err}
 use Rattle.st_machine.proofs.machine.Machine.go_for.Goals as goal
 
