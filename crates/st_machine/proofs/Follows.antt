@@ -1,0 +1,143 @@
+-- A step of a machine that is ready is some small steps of the flat machine.
+use Rattle.std.proofs.Common.{◌≡◌, ℕ, suc, ◌+◌, ◌-◌, ◌^◌, min, List, [], ◌∷◌, ◌++◌, slice_get, ap, sym, ◌∙◌, arith}
+use Rattle.std.proofs.lemmas.List.{append-nil}
+use Rattle.object_heap.specs.declared.value.Value.{Value}
+use Rattle.st_code.specs.Texts.{Text}
+use Rattle.st_contexts.specs.declared.activation.Activation.{Activation}
+use Rattle.st_contexts.specs.declared.activation.Activation.TheVariants as act
+use Rattle.st_contexts.specs.declared.activation.Env.{Env}
+use Rattle.st_contexts.specs.declared.activation.Frame.{Frame}
+use Rattle.st_contexts.specs.declared.outcome.Outcome.TheVariants as outcome
+use Rattle.st_contexts.specs.declared.outcome.Target.{Target}
+use Rattle.st_contexts.specs.declared.outcome.Target.TheVariants as target
+use Rattle.st_contexts.specs.declared.outcome.Limit.{Limit}
+use Rattle.st_contexts.specs.declared.outcome.Limit.TheVariants as limit
+use Rattle.st_contexts.specs.Stack.{Standing}
+use Rattle.st_rules.specs.Events.{Event}
+use Rattle.st_rules.specs.Flat.{code_at, instruction_at}
+use Rattle.st_machine.specs.declared.work.Mode.{Mode}
+use Rattle.st_machine.specs.declared.work.Mode.TheVariants as mode
+use Rattle.st_machine.specs.declared.work.Work.{Work}
+use Rattle.st_machine.specs.declared.work.Work.TheVariants as work
+use Rattle.st_machine.specs.Seen.{Seen}
+use Rattle.st_machine.specs.Steps.{advanced, advance_told}
+use Rattle.st_machine.specs.Meaning.{top_of, events_of}
+use Rattle.st_machine.specs.Followed.{Ready, Leads}
+use Rattle.st_machine.proofs.FollowsInstructions.{next_by}
+use Rattle.st_machine.proofs.FollowsWorks.{applies, activates, enters}
+use Rattle.st_machine.proofs.FollowsInitializers.{keeps, next_opens}
+use Rattle.st_machine.proofs.FollowsSettling.{value_law, unwinding_law}
+
+-- the machine with these activations and this mode
+abbrev with : Seen → List Standing → Mode → Seen
+with s acts m = record { plan = s.plan; stack = record { acts = acts; next = s.stack.next; depth = s.stack.depth; width = s.stack.width }; memory = s.memory; variables = s.variables; passed = s.passed; mode = m; steps = s.steps; deepest = s.deepest; initializers = s.initializers; instructions = s.instructions }
+
+module _ (tr : Text) (ev : List Event) where
+  abbrev Follows : Seen → Type 0
+  Follows s = Ready s → Leads s (top_of tr ev s) (top_of tr (ev ++ events_of (advance_told s)) (advanced s))
+
+  -- nothing more was told
+  untold : (s : Seen) → top_of tr ev s ≡ top_of tr (ev ++ []) s
+  untold s = ap (λ e. top_of tr e s) (sym (append-nil ev))
+
+  abbrev stays : (s : Seen) → Leads s (top_of tr ev s) (top_of tr (ev ++ []) s)
+  stays s = record { count = 0; leads = untold s }
+
+  -- ---- an instruction
+
+  runs_body : (s : Seen) (f : Frame) (n : ℕ) (env : Env) (ops : List Value) (acts : List Standing) → Follows (with s (record { number = n; kept = act.Body f; env = env; operands = ops } ∷ acts) mode.Run)
+  unfolding instruction_at
+  runs_body s f n env ops acts r =
+      let moves : min (f.position + 1) (2 ^ 32 - 1) ≡ f.position + 1 = omega (arith, r.falling.0.kept) in
+      record {
+        count = 1;
+        leads =
+            next_by s.plan s.stack.next s.stack.depth s.stack.width s.memory s.variables s.passed s.steps s.deepest s.initializers (min (s.instructions + 1) (2 ^ 64 - 1)) tr ev f n env ops acts moves r.falling.0.env r.cells r.passes (slice_get (code_at s.plan.codes f.code).instructions f.position) (r.roomy.counts f.code f.position)
+            ∙ untold (advanced (with s (record { number = n; kept = act.Body f; env = env; operands = ops } ∷ acts) mode.Run));
+      }
+
+  runs_top : (s : Seen) (k : Activation) (n : ℕ) (env : Env) (ops : List Value) (acts : List Standing) → Follows (with s (record { number = n; kept = k; env = env; operands = ops } ∷ acts) mode.Run)
+  runs_top s (act.Body f) n env ops acts r = runs_body s f n env ops acts r
+  runs_top s (act.Leaving f) n env ops acts r = absurd r.next
+  runs_top s (act.Protect a b c) n env ops acts r = absurd r.next
+  runs_top s (act.EnsureOn b) n env ops acts r = absurd r.next
+  runs_top s (act.CurtailOn b) n env ops acts r = absurd r.next
+  runs_top s (act.ActionOff o) n env ops acts r = absurd r.next
+  runs_top s (act.Signal e) n env ops acts r = absurd r.next
+  runs_top s (act.HandlerRun t) n env ops acts r = absurd r.next
+  runs_top s act.Outer n env ops acts r = absurd r.next
+  runs_top s (act.ResumeWait w m t) n env ops acts r = absurd r.next
+  runs_top s (act.HandlesWait x e) n env ops acts r = absurd r.next
+  runs_top s (act.Loop l) n env ops acts r = absurd r.next
+
+  runs : (s : Seen) (acts : List Standing) → Follows (with s acts mode.Run)
+  runs s [] r = absurd r.next
+  runs s (a ∷ acts) r = runs_top s a.kept a.number a.env a.operands acts r
+
+  -- ---- an outcome
+
+  answers : (s : Seen) (v : Value) (acts : List Standing) → Follows (with s acts (mode.Settle (outcome.Answer v)))
+  answers s v [] r =
+      record { count = 2; leads = keeps s.plan s.stack.next s.stack.depth s.stack.width s.variables s.passed s.steps s.deepest s.initializers s.instructions tr ev s.memory r.initializers v ∙ untold (advanced (with s [] (mode.Settle (outcome.Answer v)))) }
+  answers s v (a ∷ acts) r =
+      let c = value_law s.plan s.stack.next s.stack.depth s.stack.width s.variables s.passed s.steps s.deepest s.initializers s.instructions tr ev s.memory (mode.Settle (outcome.Answer v)) a.number a.env a.operands acts r.falling.0.env v a.kept r.falling.0.kept r.falling.0.number r.numbers r.depth in
+      record { count = suc c.count; leads = c.comes }
+
+  leaves_all : (s : Seen) (t : Target) (v : Value) → Follows (with s [] (mode.Settle (outcome.Go t v)))
+  leaves_all s (target.Home n) v r = record { count = 2; leads = untold (advanced (with s [] (mode.Settle (outcome.Go (target.Home n) v)))) }
+  leaves_all s (target.Protected n) v r = record { count = 2; leads = untold (advanced (with s [] (mode.Settle (outcome.Go (target.Protected n) v)))) }
+  leaves_all s (target.Retry n) v r = record { count = 2; leads = untold (advanced (with s [] (mode.Settle (outcome.Go (target.Retry n) v)))) }
+  leaves_all s (target.RetryWith n) v r = record { count = 2; leads = untold (advanced (with s [] (mode.Settle (outcome.Go (target.RetryWith n) v)))) }
+  leaves_all s (target.Resume n) v r = record { count = 2; leads = untold (advanced (with s [] (mode.Settle (outcome.Go (target.Resume n) v)))) }
+  leaves_all s (target.Resignal n e) v r = record { count = 2; leads = untold (advanced (with s [] (mode.Settle (outcome.Go (target.Resignal n e) v)))) }
+  leaves_all s target.Terminate v r = record { count = 2; leads = untold (advanced (with s [] (mode.Settle (outcome.Go target.Terminate v)))) }
+
+  unwinds : (s : Seen) (t : Target) (v : Value) (acts : List Standing) → Follows (with s acts (mode.Settle (outcome.Go t v)))
+  unwinds s t v [] r = leaves_all s t v r
+  unwinds s t v (a ∷ acts) r =
+      let c = unwinding_law s.plan s.stack.next s.stack.depth s.stack.width s.variables s.passed s.steps s.deepest s.initializers s.instructions tr ev s.memory (mode.Settle (outcome.Go t v)) a.number a.env a.operands acts r.falling.0.env v t a.kept in
+      record { count = suc c.count; leads = c.comes }
+
+  stops : (s : Seen) (l : Limit) → Follows (with s s.stack.acts (mode.Settle (outcome.Stop l)))
+  stops s limit.Steps r = record { count = 2; leads = untold (advanced (with s s.stack.acts (mode.Settle (outcome.Stop limit.Steps)))) }
+  stops s limit.Depth r = record { count = 2; leads = untold (advanced (with s s.stack.acts (mode.Settle (outcome.Stop limit.Depth)))) }
+  stops s limit.Cells r = record { count = 2; leads = untold (advanced (with s s.stack.acts (mode.Settle (outcome.Stop limit.Cells)))) }
+  stops s limit.Integer r = record { count = 2; leads = untold (advanced (with s s.stack.acts (mode.Settle (outcome.Stop limit.Integer)))) }
+
+  -- ---- a work
+
+  abbrev beginning : Seen → Work → Seen
+  beginning s w = with s s.stack.acts (mode.Begin w)
+
+  begins : (s : Seen) (w : Work) → Follows (beginning s w)
+  begins s (work.Apply v env) r = record { count = 1; leads = applies s.plan s.stack.next s.stack.depth s.stack.width s.variables s.passed s.steps s.deepest s.initializers s.instructions tr ev s.stack.acts s.memory r.compiled r.depth r.numbers r.cells r.within r.roomy.variables v env ∙ untold (advanced (beginning s (work.Apply v env))) }
+  begins s (work.Activate c env) r = record { count = 1; leads = activates s.plan s.stack.next s.stack.depth s.stack.width s.variables s.passed s.steps s.deepest s.initializers s.instructions tr ev s.stack.acts s.memory r.compiled r.depth r.numbers r.cells r.within r.roomy.variables c env ∙ untold (advanced (beginning s (work.Activate c env))) }
+  begins s (work.Enter code v env) r = record { count = 1; leads = enters s.plan s.stack.next s.stack.depth s.stack.width s.variables s.passed s.steps s.deepest s.initializers s.instructions tr ev s.stack.acts s.memory r.compiled r.depth r.numbers r.cells r.within r.roomy.variables code v env ∙ untold (advanced (beginning s (work.Enter code v env))) }
+  begins s (work.SendValue v env) r = stays (beginning s (work.SendValue v env))
+  begins s (work.SendTo selector v env) r = stays (beginning s (work.SendTo selector v env))
+  begins s (work.SuperTo class selector v env) r = stays (beginning s (work.SuperTo class selector v env))
+  begins s (work.Fail trouble env) r = stays (beginning s (work.Fail trouble env))
+  begins s (work.Raise e env) r = stays (beginning s (work.Raise e env))
+  begins s (work.RaiseNew class env) r = stays (beginning s (work.RaiseNew class env))
+  begins s (work.Search x rest) r = stays (beginning s (work.Search x rest))
+  begins s (work.TurnBy x entry outside) r = stays (beginning s (work.TurnBy x entry outside))
+  begins s (work.Ask w n t env) r = stays (beginning s (work.Ask w n t env))
+  begins s (work.Visit n l v env) r = stays (beginning s (work.Visit n l v env))
+
+  -- ---- the next initializer
+
+  begins_next : (s : Seen) (acts : List Standing) → Follows (with s acts mode.Next)
+  begins_next s [] r = record { count = 0; leads = next_opens s.plan s.stack.next s.stack.depth s.stack.width s.variables s.passed s.steps s.deepest s.initializers s.instructions tr ev s.memory r.initializers r.compiled r.depth r.numbers r.cells r.within r.roomy.variables ∙ untold (advanced (with s [] mode.Next)) }
+  begins_next s (a ∷ acts) r = let none : ⊥ = grind (arith, r.next) in absurd none
+
+  by_mode : (s : Seen) (m : Mode) → Follows (with s s.stack.acts m)
+  by_mode s mode.Run r = runs s s.stack.acts r
+  by_mode s (mode.Settle (outcome.Answer v)) r = answers s v s.stack.acts r
+  by_mode s (mode.Settle (outcome.Go t v)) r = unwinds s t v s.stack.acts r
+  by_mode s (mode.Settle (outcome.Stop l)) r = stops s l r
+  by_mode s (mode.Begin w) r = begins s w r
+  by_mode s mode.Next r = begins_next s s.stack.acts r
+  by_mode s (mode.Ended e) r = stays (with s s.stack.acts (mode.Ended e))
+
+pub follows : (s : Seen) (tr : Text) (ev : List Event) → Ready s → Leads s (top_of tr ev s) (top_of tr (ev ++ events_of (advance_told s)) (advanced s))
+follows s tr ev r = by_mode tr ev s s.mode r

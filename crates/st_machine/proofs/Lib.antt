@@ -1,0 +1,11 @@
+pub mod Loops
+pub mod Codes
+pub mod Links
+pub mod FollowsInstructions
+pub mod Furnishing
+pub mod FollowsOpening
+pub mod FollowsWorks
+pub mod FollowsInitializers
+pub mod FollowsSettling
+pub mod Follows
+pub mod Telling

@@ -1,0 +1,12 @@
+pub mod Seen
+pub mod Plans
+pub mod Operands
+pub mod Scopes
+pub mod Instructions
+pub mod Opening
+pub mod Initializers
+pub mod Settling
+pub mod Steps
+pub mod Running
+pub mod Meaning
+pub mod Followed

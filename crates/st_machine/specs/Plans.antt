@@ -1,0 +1,26 @@
+-- The program of a file with its limits and code.
+use Rattle.std.specs.Prelude.{◌<◌, ◌^◌, List, length, map, All}
+use Rattle.st_tree.specs.declared.units.Unit.{Unit}
+use Rattle.st_code.specs.declared.instruction.Code.{Code}
+use Rattle.st_code.specs.Compiled.{seen_code}
+use Rattle.st_code.specs.Program.{Program}
+use Rattle.st_code.specs.Written.{named_units}
+use Rattle.st_code.specs.Definitions.{RunLimits, program_of}
+use Rattle.program_image.specs.Spelled.{names_in}
+use Rattle.st_machine.specs.declared.loaded.Initializer.{Initializer}
+use Rattle.st_machine.specs.declared.loaded.Limits.{Limits}
+use Rattle.st_machine.specs.Seen.{Plan}
+
+abbrev pub limits_of : Limits → RunLimits
+limits_of l = record { steps = l.steps; depth = l.depth; cells = l.cells }
+
+abbrev pub plan_of : List Unit → List Code → List Initializer → Limits → Plan
+plan_of units codes initializers limits = record { units = units; codes = map seen_code codes; initializers = initializers; limits = limits }
+
+-- the program that the units are
+abbrev pub program_in : Plan → Program
+program_in p = program_of (names_in (named_units p.units)) (named_units p.units) (limits_of p.limits)
+
+-- the variables of each code can be counted in 32 bits
+abbrev pub AreShort : List Code → Type 0
+AreShort codes = All (λ c. length c.captured.items < 2 ^ 32) codes

@@ -1,0 +1,71 @@
+-- Turns: so many instructions with what they bring until the next, what is told of them, and how a call ends.
+use Rattle.std.specs.Prelude.{◌≡◌, ℕ, zero, suc, ◌-◌, ◌<◌, Bool, true, false, List, [], ◌∷◌, ◌++◌, length, take, slice_get, Option, nat_eq, if◌then◌else◌}
+use Rattle.std.specs.Option.{option_map}
+use Rattle.st_contexts.specs.declared.watch.Event.{Event}
+use Rattle.st_machine.specs.declared.work.Mode.{Mode}
+use Rattle.st_machine.specs.declared.work.Mode.TheVariants as mode
+use Rattle.st_machine.specs.declared.work.Told.{Told}
+use Rattle.st_machine.specs.declared.work.Told.TheVariants.{Nothing, One, Two}
+use Rattle.st_machine.specs.declared.running.Progress.{Progress}
+use Rattle.st_machine.specs.declared.running.Progress.TheVariants as progress
+use Rattle.st_machine.specs.declared.running.Stats.{Stats}
+use Rattle.st_machine.specs.Seen.{Seen}
+use Rattle.st_machine.specs.Steps.{advanced, advance_told}
+
+-- ---- events
+
+abbrev pub listed : Told → List Event
+listed Nothing = []
+listed (One e) = e ∷ []
+listed (Two d e) = d ∷ e ∷ []
+
+-- these events were told, where what was told is known
+abbrev pub all_seen : List Event → Option (List Event) → Option (List Event)
+all_seen more seen = option_map (λ events. events ++ more) seen
+
+-- the telling broke off: the first of these events were told, and it broke at the next
+pub record BreaksOff (events : List Event) (before now : Option (List Event)) (broken : Option Event) : Type 0 where
+  pub count : ℕ
+  pub within : count < length events
+  pub told : now ≡ all_seen (take count events) before
+  pub behind : broken ≡ slice_get events count
+
+-- ---- small steps until so many instructions are done
+
+-- an instruction is begun only while some are left
+abbrev pub goes_on : Mode → ℕ → Bool
+goes_on mode.Run left = if nat_eq left 0 then false else true
+goes_on (mode.Ended e) left = false
+goes_on _ left = true
+
+abbrev pub left_after : Mode → ℕ → ℕ
+left_after mode.Run left = left - 1
+left_after _ left = left
+
+-- at most so many small steps, and so many instructions
+unfoldable pub gone : (steps left : ℕ) → Seen → Seen
+gone zero left s = s
+gone (suc steps) left s = if goes_on s.mode left then gone steps (left_after s.mode left) (advanced s) else s
+
+-- the events that these steps tell
+unfoldable pub gone_told : (steps left : ℕ) → Seen → List Event
+gone_told zero left s = []
+gone_told (suc steps) left s = if goes_on s.mode left then listed (advance_told s) ++ gone_told steps (left_after s.mode left) (advanced s) else []
+
+-- ---- what a caller sees
+
+abbrev pub progress_of : Mode → Progress
+progress_of (mode.Ended e) = progress.Ended e
+progress_of _ = progress.Running
+
+-- where a call didn't break off
+abbrev pub OnProgress : Progress → Type 0 → Type 0
+OnProgress progress.WriteFault P = Unit {0}
+OnProgress _ P = P
+
+abbrev pub OnFault : Progress → Type 0 → Type 0
+OnFault progress.WriteFault P = P
+OnFault _ P = Unit {0}
+
+abbrev pub stats_of : Seen → Stats
+stats_of s = record { steps = s.steps; depth = s.deepest; cells = s.memory.used; instructions = s.instructions }

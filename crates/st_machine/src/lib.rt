@@ -1,0 +1,22 @@
+// The instruction machine: code runs over a flat stack of activations and a heap, and what stands settles each outcome. A step takes no memory.
+#![tactic(auto)]
+
+mod initializers;
+mod instructions;
+pub mod law;
+mod loaded;
+mod machine;
+mod opening;
+mod operands;
+mod running;
+mod scopes;
+mod settling;
+mod work;
+
+pub use loaded::{Initializer, Limits, Loaded};
+pub use machine::Machine;
+pub use running::{Progress, Stats};
+pub use work::{Ending, Mode, Told, Work};
+
+#[cfg(test)]
+mod tests;
