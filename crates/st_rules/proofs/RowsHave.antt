@@ -13,7 +13,7 @@ use Rattle.st_collections.specs.Kinds.{interval_size, print_text, slots_of, slot
 use Rattle.st_collections.specs.ObjectRows.{indexed, index_in, byte_value, byte_put}
 use Rattle.st_collections.specs.TextRows.{with_character}
 use Rattle.st_collections.specs.SequenceRows.{makes_sequence}
-use Rattle.st_rules.specs.Numbers.{Ratio, whole, Sum, gcd, in_range, floor_div, floor_mod, and_bits, or_bits, xor_bits, shifted, reduced, quotient_of, product_of, sum_of, negative_of, ratio_less, ratio_at_most}
+use Rattle.st_rules.specs.Numbers.{Ratio, whole, Sum, gcd, in_range, floor_div, floor_mod, and_bits, or_bits, xor_bits, shifted, reduced, quotient_of, product_of, sum_of, difference_of, negative_of, ratio_less, ratio_at_most}
 use Rattle.st_rules.specs.NumberRows.{ratio_of, gives_integer, gives_ratio, least_multiple, radix_text, in_radix, number_at, or_zero, number_action}
 use Rattle.st_rules.specs.Objects.{Has, AllHave, ObjectsHave, ActionHas}
 use Rattle.st_rules.proofs.ValuesHave.{boolean_has, first_has, get_has, nils_have, grown_new, next_new, set_keeps, object_slots, grown_slot, grown_byte}
@@ -232,7 +232,7 @@ module _ (p : Program) (s : Store) (h : ObjectsHave (length s.objects) s.objects
 
   numbers_at : (m : NumberMessage) (r : Value) (a : Ratio) (args : List Value) → Has k r → AllHave k args → Gets (number_at p s m r a args)
   numbers_at NumberMessage.Add r a args g i = number_has (ratio_of s (first args)) (λ b. sum_given (sum_of a b)) (λ b. sum_has (sum_of a b))
-  numbers_at NumberMessage.Subtract r a args g i = number_has (ratio_of s (first args)) (λ b. sum_given (sum_of a (negative_of b))) (λ b. sum_has (sum_of a (negative_of b)))
+  numbers_at NumberMessage.Subtract r a args g i = number_has (ratio_of s (first args)) (λ b. sum_given (difference_of a b)) (λ b. sum_has (difference_of a b))
   numbers_at NumberMessage.Multiply r a args g i = number_has (ratio_of s (first args)) (λ b. gives_ratio s (product_of a b)) (λ b. gives_ratio_has (product_of a b))
   numbers_at NumberMessage.Divide r a args g i = number_has (ratio_of s (first args)) (λ b. divided r a b) (λ b. divided_has r a b g)
   numbers_at NumberMessage.FloorDivide r a args g i = integers_have r (first args) (λ n. floor_div a.over n) g

@@ -10,7 +10,7 @@ use Rattle.st_code.specs.BuiltIns.{fraction_class, interval_class}
 use Rattle.st_code.specs.Messages.{NumberMessage}
 use Rattle.st_collections.specs.Actions.{Action, Gives, Fails, DividesByZero, PassesIntegers, boolean, first, second, makes_slots, makes_string}
 use Rattle.st_collections.specs.Kinds.{is_a, slot_of, integer_of, natural_of, interval_size, print_text}
-use Rattle.st_rules.specs.Numbers.{Ratio, whole, Sum, gcd, in_range, floor_div, floor_mod, and_bits, or_bits, xor_bits, shifted, reduced, quotient_of, product_of, sum_of, negative_of, ratio_less, ratio_at_most, truncated}
+use Rattle.st_rules.specs.Numbers.{Ratio, whole, Sum, gcd, in_range, floor_div, floor_mod, and_bits, or_bits, xor_bits, shifted, reduced, quotient_of, product_of, sum_of, difference_of, negative_of, ratio_less, ratio_at_most, truncated}
 
 -- the number that a value is
 unfoldable pub ratio_of : Store → Value → Option Ratio
@@ -77,7 +77,7 @@ interval s start stop by =
 -- the messages, by the receiver as a number
 abbrev pub number_at : Program → Store → NumberMessage → Value → Ratio → List Value → Action
 number_at p s NumberMessage.Add r a args = with_number s (first args) (λ b. gives_sum s (sum_of a b))
-number_at p s NumberMessage.Subtract r a args = with_number s (first args) (λ b. gives_sum s (sum_of a (negative_of b)))
+number_at p s NumberMessage.Subtract r a args = with_number s (first args) (λ b. gives_sum s (difference_of a b))
 number_at p s NumberMessage.Multiply r a args = with_number s (first args) (λ b. gives_ratio s (product_of a b))
 number_at p s NumberMessage.Divide r a args = with_number s (first args) (λ b. divides s r a b)
 number_at p s NumberMessage.FloorDivide r a args = divides_integers r (first args) (λ n. floor_div a.over n)

@@ -77,21 +77,24 @@ quotient_of a b = turned (a.over *ℤ pos b.under) (pos a.under *ℤ b.over)
 unfoldable pub product_of : Ratio → Ratio → Ratio
 product_of a b = reduced (a.over *ℤ b.over) (a.under * b.under)
 
--- a sum with each number that it is computed by: the two numerators over the common denominator, their sum, and that denominator
+-- a sum or difference with each number that it is computed by: the two numerators over the common denominator, their sum or difference, and that denominator
 pub record Sum : Type 0 where
   pub left : ℤ
   pub right : ℤ
   pub total : ℤ
   pub under : ℕ
 
-abbrev sum_by : ℕ → Ratio → Ratio → Sum
-sum_by g a b =
+abbrev sum_by : (ℤ → ℤ → ℤ) → ℕ → Ratio → Ratio → Sum
+sum_by total g a b =
     let left = a.over *ℤ pos (b.under / g) in
     let right = b.over *ℤ pos (a.under / g) in
-    record { left = left; right = right; total = left +ℤ right; under = a.under * (b.under / g) }
+    record { left = left; right = right; total = total left right; under = a.under * (b.under / g) }
 
 unfoldable pub sum_of : Ratio → Ratio → Sum
-sum_of a b = sum_by (gcd a.under b.under) a b
+sum_of a b = sum_by (λ x y. x +ℤ y) (gcd a.under b.under) a b
+
+unfoldable pub difference_of : Ratio → Ratio → Sum
+difference_of a b = sum_by (λ x y. x -ℤ y) (gcd a.under b.under) a b
 
 abbrev pub negative_of : Ratio → Ratio
 negative_of a = record { over = neg_ℤ a.over; under = a.under }
