@@ -1,15 +1,11 @@
 -- The actions that begin nothing, and the messages to characters, strings and collections, which all are such.
-use Rattle.std.proofs.Common.{◌≡◌, ℕ, ◌+◌, ◌-◌, Bool, true, false, not, List, [], ◌∷◌, ◌++◌, length, get_or, replicate, Option, Some, None, nat_eq, nat_le, nat_lt, refl, ap, if◌then◌else◌}
-use Rattle.std.specs.Prelude.{ℤ, pos, negsuc, int_lt, map, reverse}
-use Rattle.object_heap.specs.declared.value.Value.{Value}
-use Rattle.object_heap.specs.declared.value.Value.TheVariants.{Nil, True, False, Integer, Character, Symbol, Class, Meta, Transcript, Object}
-use Rattle.object_heap.specs.Store.{Store}
+use Rattle.std.proofs.Common.{◌≡◌, Bool, true, false, refl, ap, if◌then◌else◌}
 use Rattle.object_heap.specs.Charges.{Memory}
 use Rattle.st_collections.specs.Actions.{Action, Gives, Changes, Makes, Fails, PassesIntegers, DividesByZero, Writes, Begins, Activates, Sends, Misses, Enters, Guards, Ensures, Curtails, Iterates, Raises, RaisesNew, Controls, Terminates}
 use Rattle.st_collections.specs.Answers.{answer_of, is_out, memory_of, unless_out}
 use Rattle.st_collections.specs.declared.answer.Built.{Built}
 use Rattle.st_messages.specs.declared.reply.Reply.{Reply}
-use Rattle.st_messages.specs.Replies.{Seen, Answered, memory_after, told_by, unless_lost}
+use Rattle.st_messages.specs.Replies.{Answered, memory_after, told_by, unless_lost}
 
 abbrev pub is_at_once : Action → Bool
 is_at_once (Gives v) = true

@@ -1,11 +1,11 @@
 -- New objects that are nil and 0.
-use Rattle.std.proofs.Common.{◌≡◌, ℕ, ◌+◌, ◌≤◌, Ok, Err, None, false, replicate, nat_le, refl, ap, sym, ◌∙◌, arith}
+use Rattle.std.proofs.Common.{◌≡◌, ℕ, ◌+◌, Ok, Err, None, false, replicate, refl, ap}
 use borrow.Author.Tests.{le-leb}
 use Rattle.std.proofs.lemmas.List.{length-replicate}
 use Rattle.object_heap.specs.declared.value.Value.{Value}
 use Rattle.object_heap.specs.declared.value.Value.TheVariants.{Nil}
 use Rattle.object_heap.specs.declared.heap.HeapStop.{HeapStop}
-use Rattle.object_heap.specs.Store.{Store, Object, blank_object, object_added}
+use Rattle.object_heap.specs.Store.{Store, blank_object, object_added}
 use Rattle.object_heap.specs.Charges.{Memory, charged, if_out, object_charge}
 use Rattle.st_collections.specs.Actions.{Makes, makes_blank, next_object, with_new}
 use Rattle.st_collections.specs.Answers.{allot_answer, answer_of, memory_of, stop_answer, unless_out}

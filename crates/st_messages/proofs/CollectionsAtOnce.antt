@@ -1,21 +1,21 @@
 -- The messages to characters, strings and collections begin nothing.
-use Rattle.std.proofs.Common.{◌≡◌, ℕ, ◌+◌, ◌-◌, ◌^◌, Bool, true, false, not, ◌&&◌, nat_lt, List, [], ◌∷◌, ◌++◌, length, get_or, replicate, Option, Some, None, nat_eq, nat_le, refl, if◌then◌else◌}
+use Rattle.std.proofs.Common.{◌≡◌, ℕ, ◌+◌, ◌-◌, ◌^◌, Bool, true, false, ◌&&◌, nat_lt, List, [], ◌∷◌, ◌++◌, replicate, Option, Some, None, nat_eq, nat_le, refl, if◌then◌else◌}
 use Rattle.std.specs.Prelude.{ℤ, pos, negsuc, int_lt, nat_abs}
 use Rattle.object_heap.specs.declared.trouble.Trouble.{Trouble}
 use Rattle.object_heap.specs.declared.value.Value.{Value}
 use Rattle.object_heap.specs.declared.value.Value.TheVariants.{Nil, True, False, Integer, Character, Symbol, Class, Meta, Transcript, Object}
-use Rattle.object_heap.specs.Store.{Store, Object as HeapObject, object_at}
+use Rattle.object_heap.specs.Store.{Store, object_at}
 use Rattle.st_code.specs.Program.{Program}
 use Rattle.st_code.specs.Texts.{Text}
 use Rattle.st_code.specs.BuiltIns.{symbol_class, string_class, byte_array_class, interval_class}
-use Rattle.st_code.specs.Messages.{CharacterMessage, StringMessage, SequenceMessage, ObjectMessage, CollectionMessage as CollectionRow}
-use Rattle.st_collections.specs.Actions.{Action, Gives, Changes, Fails, Makes, PassesIntegers, first, second, makes_slots, makes_bytes, makes_string}
+use Rattle.st_code.specs.Messages.{CollectionMessage as CollectionRow}
+use Rattle.st_collections.specs.Actions.{Action, Gives, Fails, PassesIntegers, first, second, makes_slots, makes_bytes, makes_string}
 use Rattle.st_collections.specs.AtOnce.{action_of, character_row, string_row, sequence_row, making_action, pair_action, ordered_action}
-use Rattle.st_collections.specs.IntervalRows.{interval, interval_by, to_action, to_by_action, with_integer}
-use Rattle.st_collections.specs.Kinds.{bytes_of, element, elements, integer_of, interval_size, is_collection, natural_of, is_sequence, size_of, some_elements, species}
-use Rattle.st_collections.specs.ObjectRows.{indexed, index_in, byte_value, byte_put, sized, object_action}
-use Rattle.st_collections.specs.SequenceRows.{adds, at_put, changed, collection_action, copy_between, copy_from_to, element_trouble, is_index, join, makes_sequence, ordered_at, sequence_action, unless_empty, written}
-use Rattle.st_collections.specs.TextRows.{character_action, from_code_point, new_string, or_empty, string_action, string_at, with_character, with_text}
+use Rattle.st_collections.specs.IntervalRows.{interval, interval_by, with_integer}
+use Rattle.st_collections.specs.Kinds.{bytes_of, elements, integer_of, interval_size, is_collection, natural_of, is_sequence, size_of, some_elements, species}
+use Rattle.st_collections.specs.ObjectRows.{indexed, index_in, byte_value, sized, object_action}
+use Rattle.st_collections.specs.SequenceRows.{at_put, changed, collection_action, copy_between, copy_from_to, element_trouble, is_index, join, makes_sequence, ordered_at, sequence_action, written}
+use Rattle.st_collections.specs.TextRows.{character_action, from_code_point, new_string, string_action, with_character}
 use Rattle.st_collections.specs.declared.message.CollectionMessage.{CollectionMessage}
 use Rattle.st_collections.specs.declared.message.OfCharacter.{OfCharacter}
 use Rattle.st_collections.specs.declared.message.OfMaking.{OfMaking}

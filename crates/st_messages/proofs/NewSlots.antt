@@ -1,14 +1,14 @@
 -- A new object whose slots are written one behind the other.
-use Rattle.std.proofs.Common.{◌≡◌, ◌≢◌, ℕ, zero, suc, ◌+◌, ◌-◌, ◌<◌, ◌≤◌, Ok, Err, List, [], ◌∷◌, ◌++◌, length, get_or, take, replicate, nat_le, inl, inr, refl, ap, sym, ◌∙◌, arith, add-zero}
+use Rattle.std.proofs.Common.{◌≡◌, ℕ, ◌+◌, ◌<◌, ◌≤◌, Ok, Err, List, [], ◌∷◌, ◌++◌, length, take, replicate, inl, inr, refl, ap, sym, ◌∙◌, arith, add-zero}
 use borrow.Author.Tests.{le-leb}
 use Rattle.std.proofs.lemmas.Bool.{cases_lt}
-use Rattle.std.proofs.lemmas.List.{append_assoc, append-nil, get_or_past, length-append, take_all}
+use Rattle.std.proofs.lemmas.List.{append-nil, get_or_past, length-append, take_all}
 use Rattle.object_heap.specs.declared.value.Value.{Value}
 use Rattle.object_heap.specs.declared.value.Value.TheVariants.{Nil, True, False, Integer, Character, Symbol, Class, Meta, Transcript, Object}
 use Rattle.object_heap.specs.declared.heap.HeapStop.{HeapStop}
 use Rattle.object_heap.specs.Store.{Store, Object as HeapObject, no_object, object_at, object_added, blank_object, with_slot}
 use Rattle.object_heap.specs.Charges.{Memory, charged, if_out, object_charge, with_store}
-use Rattle.st_collections.specs.Actions.{Makes, makes_slots, new_object, next_object, with_new}
+use Rattle.st_collections.specs.Actions.{makes_slots, new_object, next_object, with_new}
 use Rattle.st_collections.specs.Answers.{allot_answer, answer_of, memory_of, stop_answer, unless_out}
 use Rattle.st_collections.specs.declared.answer.Built.{Built}
 use Rattle.st_collections.proofs.Objects.{made_slots, makes_slots-is, paid_of, stop_answer-is, stop_memory}

@@ -1,10 +1,10 @@
 -- A new String whose pieces are written one behind the other.
-use Rattle.std.proofs.Common.{◌≡◌, ◌≢◌, ℕ, zero, suc, ◌+◌, ◌-◌, ◌<◌, ◌≤◌, ◌^◌, Ok, Err, List, [], ◌∷◌, ◌++◌, length, get_or, take, drop, replicate, nat_le, refl, ap, sym, ◌∙◌, arith, add-zero}
+use Rattle.std.proofs.Common.{◌≡◌, ℕ, zero, suc, ◌+◌, ◌-◌, ◌<◌, ◌≤◌, Err, List, [], ◌∷◌, ◌++◌, length, get_or, take, replicate, refl, ap, sym, ◌∙◌, arith}
 use borrow.Author.Tests.{le-leb}
-use Rattle.std.proofs.lemmas.List.{append_assoc, append-nil, get_or_append_left, length-append, take_all, take_more, length-replicate}
+use Rattle.std.proofs.lemmas.List.{append_assoc, append-nil, length-append, take_all, take_more}
 use Rattle.object_heap.specs.declared.value.Value.{Value}
-use Rattle.object_heap.specs.Store.{Store, Object, no_object, object_at, object_added, blank_object}
-use Rattle.object_heap.specs.Charges.{Memory, charged, if_out, object_charge, with_store}
+use Rattle.object_heap.specs.Store.{Store, Object, object_added, blank_object}
+use Rattle.object_heap.specs.Charges.{Memory, charged, if_out, object_charge}
 use Rattle.st_code.specs.BuiltIns.{string_class}
 use Rattle.st_code.specs.Program.{Program}
 use Rattle.st_code.specs.Texts.{Text, quotes_doubled}
@@ -15,7 +15,7 @@ use Rattle.st_collections.proofs.Objects.{stop_memory, stop_answer-is}
 use Rattle.st_collections.specs.declared.answer.Built.{Built}
 use Rattle.st_collections.proofs.Steady.{object_steady}
 use Rattle.st_messages.specs.declared.pieces.Piece.{Piece}
-use Rattle.st_messages.specs.Pieces.{AreKnown, IsElsewhere, IsKnown, bytes_put, piece_text, pieces_text}
+use Rattle.st_messages.specs.Pieces.{AreKnown, IsElsewhere, IsKnown, piece_text, pieces_text}
 use Rattle.st_messages.proofs.Puts.{put, put_last}
 
 -- ---- pieces

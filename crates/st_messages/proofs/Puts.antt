@@ -1,9 +1,8 @@
 -- Bytes that are written into an object one after another.
-use Rattle.std.proofs.Common.{◌≡◌, ◌≢◌, ℕ, zero, suc, ◌+◌, ◌-◌, ◌<◌, ◌≤◌, Bool, true, false, List, [], ◌∷◌, ◌++◌, length, get_or, drop, replicate, nat_eq, refl, ap, sym, ◌∙◌, arith, add-one, add-zero}
+use Rattle.std.proofs.Common.{◌≡◌, ◌≢◌, ℕ, suc, ◌+◌, ◌<◌, ◌≤◌, Bool, true, false, [], ◌∷◌, ◌++◌, length, get_or, drop, replicate, nat_eq, refl, ap, sym, ◌∙◌, arith, add-one}
 use Rattle.std.proofs.lemmas.Bool.{ne_eqb}
 use Rattle.std.proofs.lemmas.List.{append_assoc, append-nil, drop_all, drop_more, get_or-set_other, length-append, set_at}
-use Rattle.object_heap.specs.declared.value.Value.{Value}
-use Rattle.object_heap.specs.Store.{Store, Object, no_object, object_at, object_added, with_byte, byte_written, byte_at}
+use Rattle.object_heap.specs.Store.{Store, Object, no_object, object_at, object_added, with_byte, byte_written}
 use Rattle.object_heap.specs.Charges.{Memory, with_store}
 use Rattle.st_code.specs.Texts.{Text, quotes_doubled}
 use Rattle.st_collections.specs.Actions.{new_object}

@@ -1,12 +1,12 @@
 -- Values that are written into the slots of an object one after another.
-use Rattle.std.proofs.Common.{◌≡◌, ◌≢◌, ℕ, zero, suc, ◌+◌, ◌-◌, ◌<◌, ◌≤◌, List, [], ◌∷◌, ◌++◌, length, get_or, drop, replicate, take, refl, ap, sym, ◌∙◌, arith}
+use Rattle.std.proofs.Common.{◌≡◌, ◌≢◌, ℕ, suc, ◌+◌, ◌<◌, ◌≤◌, List, [], ◌∷◌, ◌++◌, length, get_or, drop, replicate, refl, ap, sym, ◌∙◌, arith}
 use Rattle.std.proofs.lemmas.List.{append_assoc, append-nil, drop_all, drop_more, get_or-set_other, length-append, set_at}
 use Rattle.object_heap.specs.declared.value.Value.{Value}
 use Rattle.object_heap.specs.declared.value.Value.TheVariants.{Nil}
-use Rattle.object_heap.specs.Store.{Store, Object, no_object, object_at, object_added, with_slot, slot_written}
+use Rattle.object_heap.specs.Store.{Store, no_object, object_at, object_added, with_slot, slot_written}
 use Rattle.object_heap.specs.Charges.{Memory, with_store}
 use Rattle.st_collections.specs.Actions.{new_object}
-use Rattle.st_collections.proofs.Objects.{last_object, last_set, slot_written_last}
+use Rattle.st_collections.proofs.Objects.{slot_written_last}
 use Rattle.st_messages.specs.Pieces.{slots_put}
 
 -- the memory after values were written

@@ -1,5 +1,5 @@
 -- The rows of the table of built-in messages that these rows are.
-use Rattle.std.specs.Prelude.{ℕ, List, map, Option, Some, None}
+use Rattle.std.specs.Prelude.{List, map, Option, Some, None}
 use Rattle.st_code.specs.Messages.{ObjectMessage, ClassMessage, BooleanMessage, TranscriptMessage, BlockMessage, ExceptionMessage, CollectionMessage as CollectionRow, Row, Objects, Classes, Booleans, Numbers, Characters, Transcripts, Strings, Sequences, Collections, Blocks, Exceptions, Loops, Slots}
 use Rattle.st_code.specs.BuiltIns.{BuiltInMessage, numbered_messages}
 use Rattle.st_collections.specs.declared.message.OfMaking.{OfMaking}

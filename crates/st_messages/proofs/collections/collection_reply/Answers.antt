@@ -1,4 +1,4 @@
-use Rattle.std.proofs.Common.{sym, refl}
+use Rattle.std.proofs.Common.{sym}
 use Rattle.st_collections.specs.AtOnce.{action_of}
 use Rattle.st_messages.proofs.AtOnce.{reply_memory, reply_told}
 use Rattle.st_messages.proofs.CollectionsAtOnce.{collections_once}

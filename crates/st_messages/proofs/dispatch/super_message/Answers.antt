@@ -1,7 +1,7 @@
 use Rattle.std.proofs.Common.{◌≡◌, ◌∙◌, Option, sym, ap}
 use Rattle.std.specs.Option.{option_map}
 use Rattle.program_image.specs.Images.{as_row}
-use Rattle.st_code.specs.Lookup.{Found, Level, level_of, lookup, super_lookup}
+use Rattle.st_code.specs.Lookup.{Found, super_lookup}
 use Rattle.st_rules.specs.Sends.{super_action}
 use Rattle.st_messages.specs.Sent.{found_does}
 use Rattle.st_messages.proofs.SendLaws.{super-is}

@@ -1,5 +1,4 @@
 use Rattle.st_messages.proofs.Blanks.{makes_blank-is, no_blank, no_blank-told, blank_told}
-use Rattle.std.proofs.Common.{◌∙◌}
 use Rattle.st_messages.proofs.makers.new_blank.Goals as goal
 
 pub returns-in-Ok-clause-memory : goal.returns-in-Ok-clause-memory

@@ -1,4 +1,4 @@
-use Rattle.std.proofs.Common.{◌≡◌, ◌<◌, ◌∙◌, ◌+◌, length, sym, ap, arith}
+use Rattle.std.proofs.Common.{◌<◌, ◌∙◌, ◌+◌, length, sym, ap, arith}
 use Rattle.object_heap.specs.Store.{object_at}
 use Rattle.object_heap.specs.Charges.{Memory}
 use Rattle.st_messages.proofs.Puts.{put_more, put_all, other_stays}

@@ -1,4 +1,4 @@
-use Rattle.std.proofs.Common.{◌≡◌, ◌∙◌, ◌∷◌, [], ℕ, List, drop, get_or, length, sym, ap, arith}
+use Rattle.std.proofs.Common.{◌≡◌, ◌∙◌, ℕ, List, drop, length, sym, ap, arith}
 use Rattle.st_code.specs.Texts.{quotes_doubled}
 use Rattle.st_messages.proofs.Puts.{put, put_none, doubled_length, doubled_none, doubled_put}
 use Rattle.st_messages.proofs.pieces.put_doubled.Goals as goal

@@ -1,4 +1,4 @@
-use Rattle.std.proofs.Common.{◌≡◌, ◌≤◌, ◌∙◌, ◌+◌, get_or, length, arith}
+use Rattle.std.proofs.Common.{◌∙◌, get_or, arith}
 use Rattle.object_heap.specs.Charges.{object_charge}
 use Rattle.st_messages.specs.declared.pieces.Piece.{Piece}
 use Rattle.st_messages.specs.Pieces.{pieces_text}

@@ -1,4 +1,4 @@
-use Rattle.std.proofs.Common.{◌≡◌, ◌<◌, ◌*◌, ◌^◌, ◌≤◌, length, take}
+use Rattle.std.proofs.Common.{◌≡◌, ◌*◌, ◌^◌, ◌≤◌, length, take}
 use Rattle.st_messages.specs.Pieces.{pieces_text}
 use Rattle.st_messages.proofs.texts.pieces_length.Given as goal
 
