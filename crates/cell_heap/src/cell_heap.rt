@@ -3,9 +3,8 @@ ghost use Rattle.std.specs.Prelude.{◌≡◌, ◌≤◌, IfOk};
 ghost use Rattle.cell_heap.specs.Flat.{CellMemory, new_cells};
 
 use crate::areas::{add_nils, add_zeros, clear_run, copy_run};
-use crate::charges::{charge_of, used_after};
 use crate::place::{Place, ScopePlace};
-use object_heap::{Closure, Heap, HeapStop, Value};
+use object_heap::{Closure, Heap, HeapStop, Value, charge_of, used_after};
 use st_base::OutOfMemory;
 use std::alloc::Global;
 use std::marker::Model;

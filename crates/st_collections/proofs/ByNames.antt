@@ -191,6 +191,7 @@ pub same_ordered : (p : Program) (s : Store) (m : OfOrdered) (r : Value) (args :
 unfolding collection_action
 same_ordered p s OfOrdered.Add r args = same_changed p s CollectionRow.Add r args
 same_ordered p s OfOrdered.AddFirst r args = same_changed p s CollectionRow.AddFirst r args
+same_ordered p s OfOrdered.AddAll r args = same_changed p s CollectionRow.AddAll r args
 same_ordered p s OfOrdered.RemoveFirst r args = same_changed p s CollectionRow.RemoveFirst r args
 same_ordered p s OfOrdered.RemoveLast r args = same_changed p s CollectionRow.RemoveLast r args
 same_ordered p s OfOrdered.AddBeforeIndex r args = same_changed p s CollectionRow.AddBeforeIndex r args

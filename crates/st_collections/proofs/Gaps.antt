@@ -1,5 +1,5 @@
 -- A gap that moves through the slots of an object, one place at a time.
-use Rattle.std.proofs.Common.{Ok, Err, ◌≡◌, ℕ, zero, suc, ◌+◌, ◌-◌, ◌*◌, ◌<◌, ◌≤◌, Bool, true, false, List, [], ◌∷◌, ◌++◌, length, get_or, set, take, drop, replicate, nat_lt, nat_le, max, inl, inr, refl, ap, sym, ◌∙◌, arith, add-zero, zero-add, add-one, if◌then◌else◌}
+use Rattle.std.proofs.Common.{Ok, Err, ◌≡◌, ℕ, suc, ◌+◌, ◌-◌, ◌*◌, ◌<◌, ◌≤◌, Bool, true, false, List, [], ◌∷◌, ◌++◌, length, get_or, set, take, drop, replicate, nat_lt, nat_le, max, inl, inr, refl, ap, sym, ◌∙◌, arith, add-zero, zero-add, add-one, if◌then◌else◌}
 use Rattle.std.specs.List.{insert, remove}
 use Rattle.std.proofs.lemmas.Bool.{cases_lt, leb-true, le-leb, ltb-true, ltb-false}
 use Rattle.std.proofs.Math.Nat.{div-one, one-mul}
@@ -16,6 +16,7 @@ use Rattle.st_collections.specs.declared.answer.Built.{Built}
 use Rattle.st_collections.specs.Answers.{answer_of, memory_of, stop_answer, told, unless_out}
 use Rattle.st_collections.specs.Kinds.{size_of}
 use Rattle.st_collections.proofs.Objects.{stop_limit, stop_told}
+use Rattle.st_collections.proofs.Rooms.{grown_done}
 use Rattle.st_collections.specs.Actions.{Makes}
 use Rattle.st_collections.specs.SequenceRows.{Room, adds, grown_in, grown_to, per_element, with_elements, without_element, with_room as put_room}
 use Rattle.st_collections.specs.Ordered.{IsOpen, room_answer, room_for_one, slots_set}
@@ -128,14 +129,6 @@ pub no_growth : (n : ℕ) (m : Memory) → length (object_at n m.store).slots �
 no_growth n m room paid =
     let o = object_at n m.store in
     rw (le-leb (length o.slots) o.capacity room, object_set_same n m.store, le-leb (m.used + 0) m.limit (omega arith), add-zero m.used) refl
-
-room_true : (b : Bool) (x y : Room) → b ≡ true → elim b [ true ↦ x | false ↦ y ] ≡ x
-room_true true x y e = refl
-room_true false x y e = cc
-
-grown_done : (fuel size room cells : ℕ) → size ≤ room → grown_in fuel size room cells ≡ record { elements = room; cells = cells }
-grown_done zero size room cells h = refl
-grown_done (suc fuel) size room cells h = room_true (nat_le size room) (record { elements = room; cells = cells }) (grown_in fuel size (max 4 (2 * room)) (cells + max 4 (2 * room))) (le-leb size room h)
 
 grown_case : (b : Bool) (len cap : ℕ) → nat_lt len cap ≡ b → len ≤ cap → elim b [ true ↦ record { elements = cap; cells = 0 } | false ↦ grown_in len (suc len) (max 4 (2 * cap)) (0 + max 4 (2 * cap)) ] ≡ (if b then record { elements = cap; cells = 0 } else record { elements = max 4 (2 * cap); cells = max 4 (2 * cap) })
 grown_case true len cap e h = refl

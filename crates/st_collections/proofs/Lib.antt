@@ -1,3 +1,4 @@
+pub mod Appends
 pub mod ByNames
 pub mod Bytes
 pub mod ElementLists
@@ -5,6 +6,7 @@ pub mod Gaps
 pub mod Makings
 pub mod Objects
 pub mod Reaches
+pub mod Rooms
 pub mod Steady
 pub mod TextItems
 pub mod TextOrders

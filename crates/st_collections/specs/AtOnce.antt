@@ -97,6 +97,7 @@ pair_action p s OfPair.Value r = Gives (slot_of s r 1)
 abbrev pub ordered_action : Program → Store → OfOrdered → Value → List Value → Action
 ordered_action p s OfOrdered.Add r args = collection_action p s CollectionRow.Add r args
 ordered_action p s OfOrdered.AddFirst r args = collection_action p s CollectionRow.AddFirst r args
+ordered_action p s OfOrdered.AddAll r args = collection_action p s CollectionRow.AddAll r args
 ordered_action p s OfOrdered.RemoveFirst r args = collection_action p s CollectionRow.RemoveFirst r args
 ordered_action p s OfOrdered.RemoveLast r args = collection_action p s CollectionRow.RemoveLast r args
 ordered_action p s OfOrdered.AddBeforeIndex r args = collection_action p s CollectionRow.AddBeforeIndex r args

@@ -1,15 +1,17 @@
--- OrderedCollections as they stand, and the room that one more element asks for.
-use Rattle.std.specs.Prelude.{ℕ, ◌+◌, ◌*◌, ◌≤◌, ◌≡◌, max, false, List, length, get_or, nat_eq, nat_le, nat_lt, Result, Ok, Err, if◌then◌else◌}
+-- OrderedCollections as they stand, and the room that more elements ask for.
+use Rattle.std.specs.Prelude.{ℕ, ◌+◌, ◌*◌, ◌≤◌, ◌≡◌, max, false, List, ◌++◌, length, get_or, nat_eq, nat_le, nat_lt, Result, Ok, Err, if◌then◌else◌}
 use Rattle.object_heap.specs.declared.value.Value.{Value}
 use Rattle.object_heap.specs.declared.value.Value.TheVariants.{Nil, Object}
 use Rattle.object_heap.specs.declared.heap.HeapStop.{HeapStop}
 use Rattle.object_heap.specs.Charges.{Memory}
 use Rattle.object_heap.specs.Store.{Store, object_at, object_set, with_slots}
 use Rattle.st_code.specs.BuiltIns.{ordered_collection_class}
-use Rattle.object_heap.specs.declared.trouble.Trouble.TheVariants.{CollectionIsEmpty}
+use Rattle.object_heap.specs.declared.trouble.Trouble.TheVariants.{CollectionExpected, CollectionIsEmpty}
+use Rattle.st_code.specs.Program.{Program}
+use Rattle.st_collections.specs.Kinds.{elements, is_collection}
 use Rattle.st_collections.specs.Actions.{Action, Changes, Fails}
 use Rattle.st_collections.specs.Answers.{told}
-use Rattle.st_collections.specs.SequenceRows.{Room, without_element}
+use Rattle.st_collections.specs.SequenceRows.{Room, adds, without_element}
 
 -- an OrderedCollection: it is no literal, and has no more elements than it has room for
 pub record IsOpen (s : Store) (n : ℕ) : Type 0 where
@@ -34,6 +36,10 @@ slots_set n slots s = object_set n (with_slots slots (object_at n s)) s
 -- what the room for one more answers
 abbrev pub room_answer : ℕ → Memory → Result (Unit {0}) HeapStop
 room_answer cells m = if nat_le (m.used + cells) m.limit then Ok tt else Err (HeapStop.Limit m.used (told cells))
+
+-- all elements of a collection added at the end
+abbrev pub all_added : Program → Store → ℕ → Value → Action
+all_added p s n v = if is_collection s v then adds s n ((object_at n s).slots ++ elements p s v) v else Fails CollectionExpected
 
 -- the element at a place taken out, unless there is none
 abbrev pub removal : Store → ℕ → ℕ → Action

@@ -143,13 +143,15 @@ pub enum OfPair {
     Value,
 }
 
-/// The messages of OrderedCollection that add or remove an element by its place (section 5.7.14).
+/// The messages of OrderedCollection that add elements or remove one by its place (section 5.7.14).
 #[derive(Clone, Copy, Debug, PartialEq, Eq)]
 pub enum OfOrdered {
     /// `add:` and `addLast:`
     Add,
     /// `addFirst:`
     AddFirst,
+    /// `addAll:`
+    AddAll,
     /// `removeFirst`
     RemoveFirst,
     /// `removeLast`

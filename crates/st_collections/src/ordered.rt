@@ -1,18 +1,23 @@
-// Messages of OrderedCollections that add and remove elements by place.
-ghost use Rattle.std.specs.Prelude.{◌≡◌, ℕ, ◌+◌, ◌-◌, ◌<◌, ◌≤◌, ◌∷◌, ◌++◌, [], false, get_or, insert, length, IsTrue};
+// Messages of OrderedCollections that add and remove elements.
+ghost use Rattle.std.specs.Prelude.{◌≡◌, ℕ, ◌+◌, ◌-◌, ◌<◌, ◌≤◌, ◌^◌, ◌∷◌, ◌++◌, [], false, get_or, insert, length, IsTrue};
 ghost use Rattle.object_heap.specs.declared.value.Value.{Value};
+ghost use Rattle.object_heap.specs.Charges.{with_store};
 ghost use Rattle.object_heap.specs.Store.{object_at};
 ghost use Rattle.st_collections.specs.Actions.{Changes, first, second};
 ghost use Rattle.st_collections.specs.Answers.{program_of, answer_of, memory_of, is_out, unless_out};
 ghost use Rattle.st_collections.specs.AtOnce.{ordered_action};
+ghost use Rattle.st_collections.specs.Items.{IsMeasured};
+ghost use Rattle.st_collections.specs.Kinds.{size_of, some_elements};
 ghost use Rattle.st_collections.specs.ObjectRows.{indexed};
-ghost use Rattle.st_collections.specs.Ordered.{IsOpen, IsOrdered, removal};
+ghost use Rattle.st_collections.specs.Ordered.{IsOpen, IsOrdered, all_added, removal, slots_set};
 ghost use Rattle.st_collections.specs.SequenceRows.{adds, unless_empty, without_element};
 
 use crate::answer::{Built, answer_stop};
 use crate::arguments::{first_of, place_of, second_of};
 use crate::classes::ORDERED_COLLECTION;
-use crate::growth::{close_slot, open_slot, reserve_slot};
+use crate::elements::{element_now, size_now};
+use crate::growth::{close_slot, open_slot, reserve_slot, reserve_slots};
+use crate::kinds::is_collection_now;
 use crate::message::OfOrdered;
 use object_heap::{Heap, Trouble, Value};
 use st_names::Names;
@@ -68,6 +73,46 @@ fn add_first<H: Heap>(heap: &mut H, object: u32, value: Value) -> Built
     ensures literals { H.literal_room heap.new ≡ H.literal_room heap.old }
 {
     add_at(heap, object, 0, value)
+}
+
+// Writes elements of a collection behind those that stand, for which there is room.
+fn append_elements<H: Heap>(heap: &mut H, names: &Names, object: u32, collection: Value, count: u32)
+    requires open { IsOpen (H.meaning heap.old).store object }
+    requires room { let o = object_at object (H.meaning heap.old).store in length o.slots + count ≤ o.capacity }
+    requires fits { length (object_at object (H.meaning heap.old).store).slots + count < 2 ^ 32 }
+    requires measured { size_of (program_of names.now) (H.meaning heap.old).store collection < 2 ^ 127 }
+    requires within { count ≤ size_of (program_of names.now) (H.meaning heap.old).store collection }
+    ensures appended { H.meaning heap.new ≡ with_store (slots_set object ((object_at object (H.meaning heap.old).store).slots ++ some_elements (program_of names.now) (H.meaning heap.old).store collection 1 count) (H.meaning heap.old).store) (H.meaning heap.old) }
+    ensures literals { H.literal_room heap.new ≡ H.literal_room heap.old }
+{
+    let length = heap.length(object);
+    heap.set_length(object, length + count);
+    for place in 0..count {
+        let value = element_now(heap, names, collection, place as u128 + 1);
+        heap.put(object, length + place, value);
+    }
+}
+
+// Adds all elements of a collection, and answers it.
+fn add_all<H: Heap>(heap: &mut H, names: &Names, object: u32, collection: Value) -> Built
+    requires open { IsOpen (H.meaning heap.old).store object }
+    requires measured { IsMeasured (H.meaning heap.old).store collection }
+    ensures memory { H.meaning heap.new ≡ unless_out result (H.meaning heap.old) (memory_of (all_added (program_of names.now) (H.meaning heap.old).store object collection) (H.meaning heap.old)) }
+    ensures answer { result ≡ unless_out result result (answer_of (all_added (program_of names.now) (H.meaning heap.old).store object collection) (H.meaning heap.old)) }
+    ensures reserved { IsTrue H.reserved → is_out result ≡ false }
+    ensures literals { H.literal_room heap.new ≡ H.literal_room heap.old }
+{
+    if !is_collection_now(heap, collection) {
+        return Built::Trouble(Trouble::CollectionExpected);
+    }
+    let count = size_now(heap, names, collection);
+    let size = heap.length(object) as u128 + count;
+    match reserve_slots(heap, object, size) {
+        Ok(()) => (),
+        Err(stop) => return answer_stop(stop),
+    }
+    append_elements(heap, names, object, collection, count as u32);
+    Built::Value(collection)
 }
 
 // Adds an element before an index, which may be one past the last.
@@ -128,7 +173,7 @@ fn remove_last<H: Heap>(heap: &mut H, object: u32) -> Built
     remove_at(heap, object, length - 1)
 }
 
-/// What an OrderedCollection answers that adds or removes elements by place.
+/// What an OrderedCollection answers that adds elements or removes one by its place.
 #[tactic(auto, unfolding(crate::specs::SequenceRows::collection_action))]
 pub fn ordered_message<H: Heap>(
     heap: &mut H,
@@ -137,7 +182,8 @@ pub fn ordered_message<H: Heap>(
     receiver: Value,
     arguments: &[Value],
 ) -> Built
-    requires { IsOrdered (H.meaning heap.old).store receiver }
+    requires receiver { IsOrdered (H.meaning heap.old).store receiver }
+    requires argument { IsMeasured (H.meaning heap.old).store (first arguments.now) }
     ensures memory { H.meaning heap.new ≡ unless_out result (H.meaning heap.old) (memory_of (ordered_action (program_of names.now) (H.meaning heap.old).store message receiver arguments.now) (H.meaning heap.old)) }
     ensures answer { result ≡ unless_out result result (answer_of (ordered_action (program_of names.now) (H.meaning heap.old).store message receiver arguments.now) (H.meaning heap.old)) }
     ensures reserved { IsTrue H.reserved → is_out result ≡ false }
@@ -150,6 +196,7 @@ pub fn ordered_message<H: Heap>(
     match message {
         OfOrdered::Add => add_last(heap, object, argument),
         OfOrdered::AddFirst => add_first(heap, object, argument),
+        OfOrdered::AddAll => add_all(heap, names, object, argument),
         OfOrdered::RemoveFirst => remove_first(heap, object),
         OfOrdered::RemoveLast => remove_last(heap, object),
         OfOrdered::AddBeforeIndex => add_before(heap, object, argument, second_of(arguments)),

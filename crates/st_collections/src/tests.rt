@@ -467,3 +467,37 @@ fn an_ordered_collection_grows_by_four(rt: HostRuntime) -> Result<(), Fail> {
     );
     Ok(())
 }
+
+#[test]
+fn all_elements_are_added_at_one_charge(rt: HostRuntime) -> Result<(), Fail> {
+    let mut heap = ListHeap::new(rt.alloc(), 40)?;
+    let names = Names::new(rt.alloc());
+    heap.make(13, 0, 0)?;
+    heap.make(11, 3, 0)?;
+    heap.put(1, 2, Value::True);
+    heap.make(16, 3, 0)?;
+    heap.put(2, 0, Value::Integer(1));
+    heap.put(2, 1, Value::Integer(i128::MAX));
+    heap.put(2, 2, Value::Integer(1));
+    let too_many = Built::Cells {
+        used: 21,
+        charge: u128::MAX,
+    };
+    let rows = [
+        (Value::Object(1), value(Value::Object(1))),
+        (Value::Object(0), value(Value::Object(0))),
+        (Value::Object(2), Some(too_many)),
+        (Value::Integer(1), trouble(Trouble::CollectionExpected)),
+    ];
+    let message = CollectionMessage::Ordered(OfOrdered::AddAll);
+    for (collection, answer) in rows {
+        let arguments = [collection];
+        assert_eq!(rt;
+            ask(&mut heap, &names, message, Value::Object(0), &arguments),
+            answer
+        );
+    }
+    assert_eq!(rt; heap.length(0), 6);
+    assert_eq!(rt; heap.get(0, 5), Value::True);
+    Ok(())
+}

@@ -13,15 +13,12 @@ fn termination_blocks_run_from_the_innermost_outwards(rt: HostRuntime) -> Result
     let inner = Activation::EnsureOn {
         block: Value::Object(2),
     };
-    for kept in [
-        Activation::Outer,
-        outer,
-        Activation::Outer,
-        inner,
-        Activation::Outer,
-    ] {
-        assert_eq!(rt; contexts.push(kept, Env(0)).is_ok(), true);
-    }
+    contexts.push(Activation::Outer, Env(0)).ok();
+    contexts.push(outer, Env(0)).ok();
+    contexts.push(Activation::Outer, Env(0)).ok();
+    contexts.push(inner, Env(0)).ok();
+    contexts.push(Activation::Outer, Env(0)).ok();
+    assert_eq!(rt; contexts.depth(), 5);
     let held = Outcome::Go(Target::Protected(1), Value::Nil);
     assert_eq!(rt; unwind_to(&mut contexts, 5, held), Unwound::Reached);
     let steps = [

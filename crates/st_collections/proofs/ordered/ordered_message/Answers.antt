@@ -9,7 +9,7 @@ unfolding collection_action
 returns-in-RemoveFirst-clause-memory g c =
     let p = program_of c.args.names.now in
     let s = (g.H.Heap.meaning c.args.heap.now).store in
-    let ready : IsOpen s c.in-Object.object = rw c.in-Object.is at c.requires in
+    let ready : IsOpen s c.in-Object.object = rw c.in-Object.is at c.requires.receiver in
     rw (c.in-Object.is, c.in-RemoveFirst.is, size_open p s c.in-Object.object ready) c.remove_first.ensures.memory
 
 pub returns-in-RemoveFirst-clause-answer : goal.returns-in-RemoveFirst-clause-answer
@@ -17,7 +17,7 @@ unfolding collection_action
 returns-in-RemoveFirst-clause-answer g c =
     let p = program_of c.args.names.now in
     let s = (g.H.Heap.meaning c.args.heap.now).store in
-    let ready : IsOpen s c.in-Object.object = rw c.in-Object.is at c.requires in
+    let ready : IsOpen s c.in-Object.object = rw c.in-Object.is at c.requires.receiver in
     rw (c.in-Object.is, c.in-RemoveFirst.is, size_open p s c.in-Object.object ready) c.remove_first.ensures.answer
 
 pub returns-in-RemoveLast-clause-memory : goal.returns-in-RemoveLast-clause-memory
@@ -25,7 +25,7 @@ unfolding collection_action
 returns-in-RemoveLast-clause-memory g c =
     let p = program_of c.args.names.now in
     let s = (g.H.Heap.meaning c.args.heap.now).store in
-    let ready : IsOpen s c.in-Object.object = rw c.in-Object.is at c.requires in
+    let ready : IsOpen s c.in-Object.object = rw c.in-Object.is at c.requires.receiver in
     rw (c.in-Object.is, c.in-RemoveLast.is, size_open p s c.in-Object.object ready) c.remove_last.ensures.memory
 
 pub returns-in-RemoveLast-clause-answer : goal.returns-in-RemoveLast-clause-answer
@@ -33,5 +33,5 @@ unfolding collection_action
 returns-in-RemoveLast-clause-answer g c =
     let p = program_of c.args.names.now in
     let s = (g.H.Heap.meaning c.args.heap.now).store in
-    let ready : IsOpen s c.in-Object.object = rw c.in-Object.is at c.requires in
+    let ready : IsOpen s c.in-Object.object = rw c.in-Object.is at c.requires.receiver in
     rw (c.in-Object.is, c.in-RemoveLast.is, size_open p s c.in-Object.object ready) c.remove_last.ensures.answer

@@ -1,0 +1,4 @@
+pub mod Turns
+pub mod Searches
+pub mod Alike
+pub mod Own
