@@ -14,3 +14,6 @@ mod work;
 pub use loaded::{Limits, Loaded};
 pub use machine::Machine;
 pub use work::{Ending, Mode, Told, Work};
+
+#[cfg(test)]
+mod tests;

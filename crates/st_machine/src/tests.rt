@@ -1,0 +1,227 @@
+// Small codes that are run: a block, a captured variable, a return past a block, termination blocks.
+ghost use Rattle.std.specs.Prelude.{◌<◌, ◌^◌, length, IfOk};
+ghost use Rattle.st_machine.specs.Plans.{AreShort};
+
+use super::{Limits, Loaded, Machine, Mode, Told, Work};
+use crate::operands::argument;
+use cell_heap::CellHeap;
+use object_heap::{Heap, Value};
+use program_image::build;
+use st_base::OutOfMemory;
+use st_code::{Code, CodeKind, Constant, Instruction, Variable};
+use st_contexts::{Activation, Env, Outcome};
+use st_tree::units::{Definition, UnitList};
+use std::alloc::Global;
+use std::test::Fail;
+
+const VALUE: u32 = 1;
+
+const ENSURE: u32 = 2;
+
+// A method with one variable and a block inside it, and what they come to.
+struct Row {
+    method: &'static [Instruction],
+    block: &'static [Instruction],
+    captured: bool,
+    value: i128,
+    events: u32,
+    cells: u32,
+    depth: u32,
+}
+
+static ROWS: [Row; 5] = [
+    Row {
+        method: &[
+            Instruction::PushConstant(Constant::Integer(4)),
+            Instruction::Store(Variable::Own(0)),
+            Instruction::Pop,
+            Instruction::PushVariable(Variable::Own(0)),
+            Instruction::MethodReturn,
+        ],
+        block: &[],
+        captured: false,
+        value: 4,
+        events: 0,
+        cells: 0,
+        depth: 1,
+    },
+    Row {
+        method: &[
+            Instruction::MakeBlock(1),
+            Instruction::Send {
+                selector: VALUE,
+                count: 0,
+            },
+            Instruction::MethodReturn,
+        ],
+        block: &[
+            Instruction::PushConstant(Constant::Integer(7)),
+            Instruction::BlockEnd,
+        ],
+        captured: false,
+        value: 7,
+        events: 0,
+        cells: 2,
+        depth: 2,
+    },
+    Row {
+        method: &[
+            Instruction::PushConstant(Constant::Integer(3)),
+            Instruction::Store(Variable::Scope { up: 0, index: 0 }),
+            Instruction::MakeBlock(1),
+            Instruction::Send {
+                selector: VALUE,
+                count: 0,
+            },
+            Instruction::Pop,
+            Instruction::PushConstant(Constant::Integer(9)),
+            Instruction::MethodReturn,
+        ],
+        block: &[
+            Instruction::PushVariable(Variable::Scope { up: 0, index: 0 }),
+            Instruction::HomeReturn,
+        ],
+        captured: true,
+        value: 3,
+        events: 0,
+        cells: 4,
+        depth: 2,
+    },
+    Row {
+        method: &[
+            Instruction::MakeBlock(1),
+            Instruction::Dup,
+            Instruction::Send {
+                selector: ENSURE,
+                count: 1,
+            },
+            Instruction::MethodReturn,
+        ],
+        block: &[
+            Instruction::PushConstant(Constant::Integer(8)),
+            Instruction::BlockEnd,
+        ],
+        captured: false,
+        value: 8,
+        events: 2,
+        cells: 2,
+        depth: 3,
+    },
+    Row {
+        method: &[
+            Instruction::MakeBlock(1),
+            Instruction::Dup,
+            Instruction::Send {
+                selector: ENSURE,
+                count: 1,
+            },
+            Instruction::PushConstant(Constant::Nil),
+            Instruction::MethodReturn,
+        ],
+        block: &[
+            Instruction::PushConstant(Constant::Integer(5)),
+            Instruction::HomeReturn,
+        ],
+        captured: false,
+        value: 5,
+        events: 2,
+        cells: 2,
+        depth: 3,
+    },
+];
+
+fn code(
+    alloc: Global,
+    kind: CodeKind,
+    captured: Vec<bool>,
+    instructions: &[Instruction],
+) -> Result<Code, OutOfMemory>
+    requires { length captured.items < 2 ^ 32 }
+    ensures { IfOk result (λ c. length c.captured.items < 2 ^ 32) }
+{
+    let mut all = Vec::new(alloc);
+    all.extend_from_slice(instructions)?;
+    Ok(Code {
+        kind,
+        class: Value::Nil,
+        parameters: 0,
+        captured,
+        instructions: all,
+        width: 8,
+    })
+}
+
+fn codes(alloc: Global, row: &Row) -> Result<Vec<Code>, OutOfMemory>
+    ensures { IfOk result (λ codes. AreShort codes.items) }
+{
+    let captured = vec![in alloc; row.captured; 1]?;
+    let method = code(alloc, CodeKind::Method, captured, row.method)?;
+    let block = code(alloc, CodeKind::Block, Vec::new(alloc), row.block)?;
+    let mut codes = Vec::new(alloc);
+    if let Err(_) = codes.push(method) {
+        return Err(OutOfMemory);
+    }
+    if let Err(_) = codes.push(block) {
+        return Err(OutOfMemory);
+    }
+    Ok(codes)
+}
+
+// What a send of `value` or `ensure:` begins.
+fn perform(machine: &mut Machine<CellHeap>, selector: u32, receiver: Value, env: Env) {
+    if selector == ENSURE {
+        let block = argument(machine.passed.values(), 0);
+        machine.passed.clear();
+        let _ = machine.stand(Activation::EnsureOn { block }, env);
+    }
+    machine.begin(Work::Apply { receiver, env });
+}
+
+// So many steps, and how many of them told something.
+fn drive(machine: &mut Machine<CellHeap>) -> u32 {
+    let mut events: u32 = 0;
+    for _ in 0..40 {
+        match machine.mode() {
+            Mode::Begin(
+                Work::SendTo {
+                    selector,
+                    receiver,
+                    env,
+                },
+            ) => perform(machine, selector, receiver, env),
+            _ => {
+                if machine.advance() != Told::Nothing {
+                    events = events.saturating_add(1);
+                }
+            }
+        }
+    }
+    events
+}
+
+#[test]
+fn small_codes_run(rt: HostRuntime) -> Result<(), Fail> {
+    let limits = Limits {
+        steps: 10,
+        depth: 3,
+        cells: 9,
+    };
+    for row in &ROWS {
+        let units = UnitList::new(rt.alloc());
+        let image = build(rt.alloc(), Definition { units })?;
+        let loaded = Loaded::new(image, codes(rt.alloc(), row)?, limits);
+        let heap = CellHeap::new(rt.alloc(), limits.cells, 0)?;
+        let mut machine = Machine::open(rt.alloc(), loaded, heap)?;
+        machine.begin(Work::Enter {
+            code: 0,
+            receiver: Value::Nil,
+            env: Env(0),
+        });
+        assert_eq!(rt; drive(&mut machine), row.events);
+        let answer = Outcome::Answer(Value::Integer(row.value));
+        assert_eq!(rt; machine.mode(), Mode::Settle(answer));
+        assert_eq!(rt; machine.heap.used(), row.cells);
+        assert_eq!(rt; machine.deepest, row.depth);
+    }
+    Ok(())
+}
