@@ -25,6 +25,7 @@ use Rattle.st_machine.specs.Meaning.{top_of, events_of}
 use Rattle.st_machine.specs.Followed.{Ready, Leads}
 use Rattle.st_machine.proofs.FollowsInstructions.{next_by}
 use Rattle.st_machine.proofs.FollowsWorks.{applies, activates, enters}
+use Rattle.st_machine.proofs.FollowsInitializers.{keeps, next_opens}
 use Rattle.st_machine.proofs.FollowsSettling.{value_law, unwinding_law}
 
 -- the machine with these activations and this mode
@@ -76,7 +77,8 @@ module _ (tr : Text) (ev : List Event) where
   -- ---- an outcome
 
   answers : (s : Seen) (v : Value) (acts : List Standing) → Follows (with s acts (mode.Settle (outcome.Answer v)))
-  answers s v [] r = stays (with s [] (mode.Settle (outcome.Answer v)))
+  answers s v [] r =
+      record { count = 2; leads = keeps s.plan s.stack.next s.stack.depth s.stack.width s.variables s.passed s.steps s.deepest s.initializers s.instructions tr ev s.memory r.initializers v ∙ untold (advanced (with s [] (mode.Settle (outcome.Answer v)))) }
   answers s v (a ∷ acts) r =
       let c = value_law s.plan s.stack.next s.stack.depth s.stack.width s.variables s.passed s.steps s.deepest s.initializers s.instructions tr ev s.memory (mode.Settle (outcome.Answer v)) a.number a.env a.operands acts r.falling.0.env v a.kept r.falling.0.kept r.falling.0.number r.numbers r.depth in
       record { count = suc c.count; leads = c.comes }
@@ -122,13 +124,19 @@ module _ (tr : Text) (ev : List Event) where
   begins s (work.Ask w n t env) r = stays (beginning s (work.Ask w n t env))
   begins s (work.Visit n l v env) r = stays (beginning s (work.Visit n l v env))
 
+  -- ---- the next initializer
+
+  begins_next : (s : Seen) (acts : List Standing) → Follows (with s acts mode.Next)
+  begins_next s [] r = record { count = 0; leads = next_opens s.plan s.stack.next s.stack.depth s.stack.width s.variables s.passed s.steps s.deepest s.initializers s.instructions tr ev s.memory r.initializers r.compiled r.depth r.numbers r.cells r.within r.roomy.variables ∙ untold (advanced (with s [] mode.Next)) }
+  begins_next s (a ∷ acts) r = let none : ⊥ = grind (arith, r.next) in absurd none
+
   by_mode : (s : Seen) (m : Mode) → Follows (with s s.stack.acts m)
   by_mode s mode.Run r = runs s s.stack.acts r
   by_mode s (mode.Settle (outcome.Answer v)) r = answers s v s.stack.acts r
   by_mode s (mode.Settle (outcome.Go t v)) r = unwinds s t v s.stack.acts r
   by_mode s (mode.Settle (outcome.Stop l)) r = stops s l r
   by_mode s (mode.Begin w) r = begins s w r
-  by_mode s mode.Next r = stays (with s s.stack.acts mode.Next)
+  by_mode s mode.Next r = begins_next s s.stack.acts r
   by_mode s (mode.Ended e) r = stays (with s s.stack.acts (mode.Ended e))
 
 pub follows : (s : Seen) (tr : Text) (ev : List Event) → Ready s → Leads s (top_of tr ev s) (top_of tr (ev ++ events_of (advance_told s)) (advanced s))

@@ -5,5 +5,6 @@ pub mod FollowsInstructions
 pub mod Furnishing
 pub mod FollowsOpening
 pub mod FollowsWorks
+pub mod FollowsInitializers
 pub mod FollowsSettling
 pub mod Follows

@@ -1,5 +1,5 @@
 -- The law of the machine: what it does is what the flat machine does.
-use Rattle.std.specs.Prelude.{◌≡◌, ℕ, ◌-◌, ◌<◌, ◌≤◌, ◌^◌, List, [], ◌∷◌, ◌++◌, slice_get, Option, Some, None}
+use Rattle.std.specs.Prelude.{◌≡◌, ℕ, ◌-◌, ◌<◌, ◌≤◌, ◌^◌, List, [], ◌∷◌, ◌++◌, map, slice_get, Option, Some, None}
 use Rattle.st_code.specs.Texts.{Text}
 use Rattle.st_code.specs.declared.instruction.Instruction.{Instruction}
 use Rattle.st_code.specs.declared.instruction.Instruction.TheVariants.{Send, SuperSend}
@@ -20,6 +20,7 @@ use Rattle.st_machine.specs.declared.work.Work.{Work}
 use Rattle.st_machine.specs.declared.work.Work.TheVariants as work
 use Rattle.st_machine.specs.Seen.{Seen}
 use Rattle.st_machine.specs.Plans.{program_in}
+use Rattle.st_machine.specs.Initializers.{seen_initializer}
 use Rattle.st_machine.specs.Steps.{advanced, advance_told}
 use Rattle.st_machine.specs.Meaning.{events_of, flat_of, top_of}
 
@@ -86,10 +87,12 @@ WorkBelow n _ = Unit {0}
 abbrev pub CanGoOn : Mode → Seen → Type 0
 CanGoOn mode.Run s = IsBody s.stack.acts
 CanGoOn (mode.Begin w) s = WorkBelow s.stack.next w
+CanGoOn mode.Next s = s.stack.acts ≡ []
 CanGoOn _ s = Unit {0}
 
 pub record Ready (s : Seen) : Type 0 where
   pub compiled : s.plan.codes ≡ compile_of (program_in s.plan)
+  pub initializers : map seen_initializer s.plan.initializers ≡ (program_in s.plan).initializers
   pub roomy : Roomy s.plan.codes s.stack.width
   pub passes : s.passed.room ≡ s.stack.width
   pub depth : s.stack.depth ≡ (program_in s.plan).depth_limit

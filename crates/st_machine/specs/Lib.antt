@@ -4,6 +4,7 @@ pub mod Operands
 pub mod Scopes
 pub mod Instructions
 pub mod Opening
+pub mod Initializers
 pub mod Settling
 pub mod Steps
 pub mod Meaning

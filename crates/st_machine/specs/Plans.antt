@@ -7,14 +7,15 @@ use Rattle.st_code.specs.Program.{Program}
 use Rattle.st_code.specs.Written.{named_units}
 use Rattle.st_code.specs.Definitions.{RunLimits, program_of}
 use Rattle.program_image.specs.Spelled.{names_in}
+use Rattle.st_machine.specs.declared.loaded.Initializer.{Initializer}
 use Rattle.st_machine.specs.declared.loaded.Limits.{Limits}
 use Rattle.st_machine.specs.Seen.{Plan}
 
 abbrev pub limits_of : Limits → RunLimits
 limits_of l = record { steps = l.steps; depth = l.depth; cells = l.cells }
 
-abbrev pub plan_of : List Unit → List Code → Limits → Plan
-plan_of units codes limits = record { units = units; codes = map seen_code codes; limits = limits }
+abbrev pub plan_of : List Unit → List Code → List Initializer → Limits → Plan
+plan_of units codes initializers limits = record { units = units; codes = map seen_code codes; initializers = initializers; limits = limits }
 
 -- the program that the units are
 abbrev pub program_in : Plan → Program

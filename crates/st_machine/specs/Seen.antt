@@ -5,13 +5,15 @@ use Rattle.object_heap.specs.Charges.{Memory}
 use Rattle.st_tree.specs.declared.units.Unit.{Unit}
 use Rattle.st_code.specs.Compiled.{Compiled}
 use Rattle.st_contexts.specs.Stack.{Stack}
+use Rattle.st_machine.specs.declared.loaded.Initializer.{Initializer}
 use Rattle.st_machine.specs.declared.loaded.Limits.{Limits}
 use Rattle.st_machine.specs.declared.work.Mode.{Mode}
 
--- the units of a program, the code of its bodies, and the limits of its run
+-- the units of a program, the code of its bodies, its initializers in file order, and the limits of its run
 pub record Plan : Type 0 where
   pub units : List Unit
   pub codes : List Compiled
+  pub initializers : List Initializer
   pub limits : Limits
 
 -- values that a work passes on, and for how many there is room

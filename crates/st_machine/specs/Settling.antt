@@ -30,6 +30,7 @@ use Rattle.st_machine.specs.declared.work.Work.TheVariants as work
 use Rattle.st_machine.specs.Seen.{Seen, with_stack, with_passed, with_mode, passing}
 use Rattle.st_machine.specs.Opening.{has_place, stood, stopped, settling, left_with, beginning}
 use Rattle.st_machine.specs.Instructions.{value_delivered}
+use Rattle.st_machine.specs.Initializers.{value_kept}
 
 -- ---- what an activation of this number makes of an unwinding
 
@@ -224,11 +225,11 @@ limit_ending limit.Integer = ending.Integer
 abbrev pub ended : Ending → Seen → Seen
 ended e s = with_mode s (Ended e)
 
--- ---- an outcome at the innermost activation; a value with nothing standing waits for the next initializer
+-- ---- an outcome at the innermost activation; a value with nothing standing is that of the initializer that is on
 
 abbrev pub answered_at : Option Numbered → Value → Seen → Seen
 answered_at (Some a) v s = answered_by a.kept a.number a.env v s
-answered_at None v s = s
+answered_at None v s = value_kept v s
 
 abbrev pub answer_told_at : Option Numbered → Value → Seen → Told
 answer_told_at (Some a) v s = answer_told a.kept a.number v s

@@ -12,6 +12,7 @@ use Rattle.st_machine.specs.Seen.{Plan, Seen}
 use Rattle.st_machine.specs.Plans.{program_in}
 use Rattle.st_machine.specs.Opening.{begun}
 use Rattle.st_machine.specs.Instructions.{instructed}
+use Rattle.st_machine.specs.Initializers.{next_opened}
 use Rattle.st_machine.specs.Settling.{settled, settled_told}
 
 -- nothing stands, all variables are nil, and nothing is counted
@@ -34,7 +35,7 @@ abbrev pub advanced_by : Mode → Seen → Seen
 advanced_by Run s = instructed s
 advanced_by (Settle o) s = settled o s
 advanced_by (Begin work) s = begun work s
-advanced_by Next s = s
+advanced_by Next s = next_opened s
 advanced_by (Ended e) s = s
 
 abbrev pub told_by : Mode → Seen → Told

@@ -1,6 +1,7 @@
 // The instruction machine: code runs over a flat stack of activations and a heap, and what stands settles each outcome. A step takes no memory.
 #![tactic(auto)]
 
+mod initializers;
 mod instructions;
 pub mod law;
 mod loaded;
@@ -11,7 +12,7 @@ mod scopes;
 mod settling;
 mod work;
 
-pub use loaded::{Limits, Loaded};
+pub use loaded::{Initializer, Limits, Loaded};
 pub use machine::Machine;
 pub use work::{Ending, Mode, Told, Work};
 

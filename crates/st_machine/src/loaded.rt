@@ -1,5 +1,5 @@
 // A program that is ready to run: its image, its code and the limits of its run.
-ghost use Rattle.std.specs.Prelude.{◌≡◌, ◌<◌, ◌^◌, [], length, map, slice_get};
+ghost use Rattle.std.specs.Prelude.{◌≡◌, ◌<◌, ◌-◌, ◌^◌, [], length, map, slice_get, IfSome};
 ghost use Rattle.st_rules.specs.Ends.{first_class_slot};
 ghost use Rattle.st_rules.specs.Flat.{code_at, greatest_width};
 ghost use Rattle.st_code.specs.Compiled.{seen_code};
@@ -20,11 +20,23 @@ pub struct Limits {
     pub cells: u32,
 }
 
-/// A program that is ready to run. Contracts see its definitions and its code.
+/// An initializer of the program (ANSI NCITS 319, 4.1).
+#[derive(Clone, Copy, Debug, PartialEq, Eq)]
+pub struct Initializer {
+    /// The number of its code.
+    pub code: u32,
+    /// What `self` is in it: the class that it initializes, and else nil.
+    pub receiver: Value,
+    /// The variable of the program that takes its value.
+    pub target: Option<u32>,
+}
+
+/// A program that is ready to run. Contracts see its definitions, its code and its initializers.
 #[derive(Drop)]
 pub struct Loaded {
     image: Image,
     codes: Vec<Code>,
+    initializers: Vec<Initializer>,
     limits: Limits,
 }
 
@@ -39,20 +51,26 @@ impl Model for Loaded {
 
     ghost use Rattle.st_machine.specs.Plans.{plan_of, AreShort};
 
-    ghost view = { λ l. plan_of l.image l.codes.items l.limits };
+    ghost view = { λ l. plan_of l.image l.codes.items l.initializers.items l.limits };
 
     ghost invariant = { λ l. AreShort l.codes.items };
 }
 
 impl Loaded {
     /// A program of this image, whose codes have fewer than 2^32 variables each.
-    pub fn new(image: Image, codes: Vec<Code>, limits: Limits) -> Loaded
+    pub fn new(
+        image: Image,
+        codes: Vec<Code>,
+        initializers: Vec<Initializer>,
+        limits: Limits,
+    ) -> Loaded
         requires { AreShort codes.items }
-        ensures { result ≡ plan_of image codes.items limits }
+        ensures { result ≡ plan_of image codes.items initializers.items limits }
     {
         Loaded {
             image,
             codes,
+            initializers,
             limits,
         }
     }
@@ -76,6 +94,17 @@ impl Loaded {
         ensures { result ≡ (program_in self.now).variables }
     {
         self.image.shared().len()
+    }
+
+    /// An initializer by its place in the file.
+    pub fn initializer(&self, index: usize) -> Option<Initializer>
+        ensures initializer { result ≡ slice_get self.now.initializers index }
+        ensures counted { IfSome result (λ _. index < 2 ^ 64 - 1) }
+    {
+        if index < self.initializers.len() {
+            return Some(self.initializers[index]);
+        }
+        None
     }
 
     /// How many operands its codes ask for at most, and at least 8.

@@ -24,7 +24,7 @@ pub struct Machine<H: Heap> {
     pub(crate) mode: Mode,
     pub(crate) steps: u64,
     pub(crate) deepest: u32,
-    pub(crate) initializers: u32,
+    pub(crate) initializers: usize,
     pub(crate) instructions: u64,
 }
 
@@ -78,7 +78,7 @@ impl<H: Heap> Machine<H> {
     }
 
     /// One small step, and the events that it tells. A work that begins something else than an
-    /// application, and a value with nothing standing, are left as they are.
+    /// application is left as it is.
     pub fn advance(&mut self) -> Told
         ensures stepped { self.new ≡ advanced self.old }
         ensures told { result ≡ advance_told self.old }
@@ -93,7 +93,10 @@ impl<H: Heap> Machine<H> {
                 self.begin(work);
                 Told::Nothing
             }
-            Mode::Next => Told::Nothing,
+            Mode::Next => {
+                self.open_next();
+                Told::Nothing
+            }
             Mode::Ended(_) => Told::Nothing,
         }
     }

@@ -124,8 +124,8 @@ impl<H: Heap> Machine<H> {
         }
     }
 
-    // A method is activated.
-    fn enter(&mut self, code: u32, receiver: Value, env: Env)
+    /// A method is activated.
+    pub(crate) fn enter(&mut self, code: u32, receiver: Value, env: Env)
         ensures { self.new ≡ entered code receiver env self.old }
     {
         let class = self.loaded.class(code);

@@ -445,7 +445,10 @@ impl<H: Heap> Machine<H> {
     {
         match self.contexts.numbered(0) {
             Some(top) => self.answer_to(top, value),
-            None => Told::Nothing,
+            None => {
+                self.keep_value(value);
+                Told::Nothing
+            }
         }
     }
 
@@ -463,8 +466,8 @@ impl<H: Heap> Machine<H> {
         }
     }
 
-    /// This outcome reaches the innermost activation. A value with nothing standing is left in
-    /// hand.
+    /// This outcome reaches the innermost activation. A value with nothing standing is that of the
+    /// initializer that is on.
     pub(crate) fn settle(&mut self, outcome: Outcome) -> Told
         ensures settled { self.new ≡ settled outcome self.old }
         ensures told { result ≡ settled_told outcome self.old }

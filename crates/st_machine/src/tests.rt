@@ -2,15 +2,17 @@
 ghost use Rattle.std.specs.Prelude.{◌<◌, ◌^◌, length, IfOk};
 ghost use Rattle.st_machine.specs.Plans.{AreShort};
 
-use super::{Limits, Loaded, Machine, Mode, Told, Work};
+use super::{Ending, Initializer, Limits, Loaded, Machine, Mode, Told, Work};
 use crate::operands::argument;
+use crate::scopes::shared;
 use cell_heap::CellHeap;
 use object_heap::{Heap, Value};
 use program_image::build;
-use st_base::OutOfMemory;
+use sqlite_items::Items;
+use st_base::{OutOfMemory, Text};
 use st_code::{Code, CodeKind, Constant, Instruction, Variable};
-use st_contexts::{Activation, Env, Outcome};
-use st_tree::units::{Definition, UnitList};
+use st_contexts::{Activation, Env};
+use st_tree::units::{Definition, Unit, UnitKind, UnitList};
 use std::alloc::Global;
 use std::test::Fail;
 
@@ -18,7 +20,7 @@ const VALUE: u32 = 1;
 
 const ENSURE: u32 = 2;
 
-// A method with one variable and a block inside it, and what they come to.
+// An initializer with one variable and a block inside it, and what they come to.
 struct Row {
     method: &'static [Instruction],
     block: &'static [Instruction],
@@ -167,6 +169,23 @@ fn codes(alloc: Global, row: &Row) -> Result<Vec<Code>, OutOfMemory>
     Ok(codes)
 }
 
+// A global variable, and its initializer.
+fn loaded(alloc: Global, row: &Row, limits: Limits) -> Result<Loaded, OutOfMemory> {
+    let mut units = UnitList::new(alloc);
+    units.push(Unit {
+        kind: UnitKind::GlobalVariable(Text::from_bytes(alloc, b"Bank")?),
+        annotations: Items::new(alloc),
+    })?;
+    let initializer = Initializer {
+        code: 0,
+        receiver: Value::Nil,
+        target: Some(0),
+    };
+    let initializers = vec![in alloc; initializer; 1]?;
+    let image = build(alloc, Definition { units })?;
+    Ok(Loaded::new(image, codes(alloc, row)?, initializers, limits))
+}
+
 // What a send of `value` or `ensure:` begins.
 fn perform(machine: &mut Machine<CellHeap>, selector: u32, receiver: Value, env: Env) {
     if selector == ENSURE {
@@ -207,19 +226,12 @@ fn small_codes_run(rt: HostRuntime) -> Result<(), Fail> {
         cells: 9,
     };
     for row in &ROWS {
-        let units = UnitList::new(rt.alloc());
-        let image = build(rt.alloc(), Definition { units })?;
-        let loaded = Loaded::new(image, codes(rt.alloc(), row)?, limits);
+        let loaded = loaded(rt.alloc(), row, limits)?;
         let heap = CellHeap::new(rt.alloc(), limits.cells, 0)?;
         let mut machine = Machine::open(rt.alloc(), loaded, heap)?;
-        machine.begin(Work::Enter {
-            code: 0,
-            receiver: Value::Nil,
-            env: Env(0),
-        });
         assert_eq!(rt; drive(&mut machine), row.events);
-        let answer = Outcome::Answer(Value::Integer(row.value));
-        assert_eq!(rt; machine.mode(), Mode::Settle(answer));
+        assert_eq!(rt; machine.mode(), Mode::Ended(Ending::Done));
+        assert_eq!(rt; shared(&machine.variables, 0, 0), Value::Integer(row.value));
         assert_eq!(rt; machine.heap.used(), row.cells);
         assert_eq!(rt; machine.deepest, row.depth);
     }
