@@ -65,25 +65,30 @@ raise_told e s = raise_told_by (live_in e s.stack.acts) s
 
 -- ---- a signal that makes its exception
 
--- the signal stands, and its exception was made, if there was room for it
-abbrev pub signal_made : Option ℕ → ℕ → ℕ → List Value → Env → Seen → Seen
-signal_made (Some e) n count slots env s =
-    searching (signal_search n e env) (with_stack
-    (with_memory s (with_store (slots_put count slots e 0 s.memory.store) s.memory))
-    (with_kept (act.Signal e) s.stack))
-signal_made None n count slots env s = stopped limit.Cells (with_stack s (popped s.stack))
+-- the number of a new object with so many slots
+abbrev pub if_object : ℕ → Memory → Option ℕ
+if_object count m = if_room (object_charge count 0) (length m.store.objects) m
+
+abbrev pub filled_by : Option ℕ → ℕ → List Value → Memory → Memory
+filled_by (Some e) count slots m = with_store (slots_put count slots e 0 m.store) m
+filled_by None count slots m = m
+
+-- a new exception has these values in its first slots
+abbrev pub exception_made : ℕ → ℕ → List Value → Memory → Memory
+exception_made class count slots m = filled_by (if_object count m) count slots (made class count 0 m)
+
+-- the signal that stands gets its exception, if that was made
+abbrev pub signal_made : Option ℕ → ℕ → Env → Seen → Seen
+signal_made (Some e) n env s = searching (signal_search n e env) (with_stack s (with_kept (act.Signal e) s.stack))
+signal_made None n env s = stopped limit.Cells (with_stack s (popped s.stack))
 
 abbrev pub made_told : Option ℕ → ℕ → Told
 made_told (Some e) n = Two (event.Signal n) (event.Search n)
 made_told None n = One (event.Signal n)
 
--- the number of a new object with so many slots
-abbrev pub if_object : ℕ → Memory → Option ℕ
-if_object count m = if_room (object_charge count 0) (length m.store.objects) m
-
 abbrev pub new_signal : ℕ → ℕ → List Value → Env → Seen → Seen
 new_signal class count slots env s =
-    if has_place s then signal_made (if_object count s.memory) s.stack.next count slots env (with_memory (stood (act.Signal 0) env s) (made class count 0 s.memory)) else stopped limit.Depth s
+    if has_place s then signal_made (if_object count s.memory) s.stack.next env (with_memory (stood (act.Signal 0) env s) (exception_made class count slots s.memory)) else stopped limit.Depth s
 
 abbrev pub new_signal_told : ℕ → Seen → Told
 new_signal_told count s = if has_place s then made_told (if_object count s.memory) s.stack.next else Nothing
