@@ -1,6 +1,7 @@
 -- The entry that a link names, and the environment outside it.
 use Rattle.std.proofs.Common.{◌≡◌, ℕ, suc, zero, ◌+◌, ◌<◌, List, [], ◌∷◌, map, Bool, true, false, nat_eq, Option, Some, None, refl, ap, sym, ◌∙◌, arith}
 use Rattle.std.proofs.lemmas.Bool.{eqb-true}
+use Rattle.std.proofs.lemmas.Bool.Decides.{nat_tests}
 use Rattle.object_heap.specs.declared.value.Value.{Value}
 use Rattle.st_contexts.specs.declared.activation.Activation.{Activation}
 use Rattle.st_contexts.specs.declared.activation.Activation.TheVariants as act
@@ -8,24 +9,28 @@ use Rattle.st_contexts.specs.declared.activation.Entry.{Entry}
 use Rattle.st_contexts.specs.declared.activation.Env.{Env}
 use Rattle.st_contexts.specs.Marks.{entry_of}
 use Rattle.st_contexts.specs.Stack.{Standing, standing_in, entry_in, env_in, before}
-use Rattle.st_machine.specs.Followed.{Falling}
+use Rattle.st_machine.specs.Followed.{Below, Falling}
 use Rattle.st_machine.specs.Meaning.{env_of, entry_named, entry_seen}
 use Rattle.st_machine.proofs.Links.{env_skip, entry_skip, env_here}
+
+not_zero : (k : ℕ) → nat_eq (suc k) 0 ≡ false
+not_zero k = grind (arith, nat_tests)
 
 -- ---- no entry
 
 before_none : (o : Option Entry) (es : List Entry) → o ≡ None → before o es ≡ []
 before_none o es is = rw is refl
 
-none_in : (acts : List Standing) (link : ℕ) → entry_in link acts ≡ None → env_in acts link ≡ []
+none_by : (b : Bool) (a : Standing) (acts : List Standing) (l : ℕ) → nat_eq (suc l) a.number ≡ b → entry_in (suc l) (a ∷ acts) ≡ None → (entry_in (suc l) acts ≡ None → env_in acts (suc l) ≡ []) → env_in (a ∷ acts) (suc l) ≡ []
 unfolding env_in standing_in
+none_by true a acts l t w ih = let none : entry_of a.number a.kept a.env ≡ None = rw (not_zero l, t) at w in rw t (before_none (entry_of a.number a.kept a.env) (env_in acts a.env.0) none)
+none_by false a acts l t w ih = let none : entry_in (suc l) acts ≡ None = rw t at w in rw t (ih none)
+
+none_in : (acts : List Standing) (link : ℕ) → entry_in link acts ≡ None → env_in acts link ≡ []
+unfolding env_in
 none_in [] link is = refl
 none_in (a ∷ acts) zero is = refl
-none_in (a ∷ acts) (suc l) is = by (nat_eq (suc l) a.number) refl (none_in acts (suc l))
-  where
-    by : (b : Bool) → nat_eq (suc l) a.number ≡ b → (entry_in (suc l) acts ≡ None → env_in acts (suc l) ≡ []) → env_in (a ∷ acts) (suc l) ≡ []
-    by true t ih = let none : entry_of a.number a.kept a.env ≡ None = rw t at is in rw t (before_none (entry_of a.number a.kept a.env) (env_in acts a.env.0) none)
-    by false t ih = let none : entry_in (suc l) acts ≡ None = rw t at is in rw t (ih none)
+none_in (a ∷ acts) (suc l) is = none_by (nat_eq (suc l) a.number) a acts l refl is (λ none. none_in acts (suc l) none)
 
 pub no_entry : (acts : List Standing) (env : Env) → entry_in env.0 acts ≡ None → env_of acts env ≡ []
 unfolding env_of
@@ -80,17 +85,18 @@ deeper_names bound a acts link entry l h =
       named = entry_skip a acts entry.protect (let small : entry.protect < a.number = omega (arith, h.number, h.within) in small) ∙ h.named;
     }
 
+names_by : (b : Bool) (bound : ℕ) (a : Standing) (acts : List Standing) (l : ℕ) (entry : Entry) → Below bound a → nat_eq (suc l) a.number ≡ b → entry_in (suc l) (a ∷ acts) ≡ Some entry → (entry_in (suc l) acts ≡ Some entry → Names a.number acts (suc l) entry) → Names bound (a ∷ acts) (suc l) entry
+unfolding standing_in
+names_by true bound a acts l entry below t w ih =
+    let here : entry_of a.number a.kept a.env ≡ Some entry = rw (not_zero l, t) at w in
+    let same : suc l ≡ a.number = eqb-true (suc l) a.number t in
+    let named : entry_in a.number (a ∷ acts) ≡ Some entry = ap (λ k. entry_in k (a ∷ acts)) (sym same) ∙ w in
+    rw same (here_names a.kept bound a.number a.env a.operands acts entry below.number below.env here named)
+names_by false bound a acts l entry below t w ih = let there : entry_in (suc l) acts ≡ Some entry = rw t at w in deeper_names bound a acts (suc l) entry below.number (ih there)
+
 pub names : (bound : ℕ) (acts : List Standing) → Falling bound acts → (link : ℕ) (entry : Entry) → entry_in link acts ≡ Some entry → Names bound acts link entry
 unfolding standing_in
 names bound [] falling zero entry is = absurd cc
-names bound [] falling (suc l) entry is = absurd cc
+names bound [] falling (suc l) entry is = let none : None ≡ Some entry = rw (not_zero l) at is in absurd cc
 names bound (a ∷ acts) falling zero entry is = absurd cc
-names bound (a ∷ acts) falling (suc l) entry is = by (nat_eq (suc l) a.number) refl (λ there. names a.number acts falling.1 (suc l) entry there)
-  where
-    by : (b : Bool) → nat_eq (suc l) a.number ≡ b → (entry_in (suc l) acts ≡ Some entry → Names a.number acts (suc l) entry) → Names bound (a ∷ acts) (suc l) entry
-    by true t ih =
-        let here : entry_of a.number a.kept a.env ≡ Some entry = rw t at is in
-        let same : suc l ≡ a.number = eqb-true (suc l) a.number t in
-        let is' : entry_in a.number (a ∷ acts) ≡ Some entry = rw (← same) is in
-        rw same (here_names a.kept bound a.number a.env a.operands acts entry falling.0.number falling.0.env here is')
-    by false t ih = let there : entry_in (suc l) acts ≡ Some entry = rw t at is in deeper_names bound a acts (suc l) entry falling.0.number (ih there)
+names bound (a ∷ acts) falling (suc l) entry is = names_by (nat_eq (suc l) a.number) bound a acts l entry falling.0 refl is (λ there. names a.number acts falling.1 (suc l) entry there)

@@ -1,5 +1,5 @@
 -- What a search makes of the next entry, and the turn that it begins, are small steps of the flat machine.
-use Rattle.std.proofs.Common.{◌≡◌, ℕ, suc, ◌+◌, ◌-◌, ◌<◌, ◌^◌, List, [], ◌∷◌, ◌++◌, length, Bool, true, false, nat_eq, nat_lt, nat_le, Option, Some, None, if◌then◌else◌, refl, ap, sym, ◌∙◌, arith}
+use Rattle.std.proofs.Common.{◌≡◌, ℕ, suc, ◌+◌, ◌-◌, ◌<◌, ◌^◌, max, List, [], ◌∷◌, ◌++◌, length, Bool, true, false, nat_eq, nat_lt, nat_le, Option, Some, None, if◌then◌else◌, refl, ap, sym, ◌∙◌, arith}
 use Rattle.std.specs.Option.{option_map}
 use Rattle.std.proofs.lemmas.List.{append-nil}
 use Rattle.object_heap.specs.declared.value.Value.{Value}
@@ -23,18 +23,20 @@ use Rattle.st_contexts.specs.Stack.{Standing, entry_in}
 use Rattle.st_rules.specs.Events.{Event}
 use Rattle.st_rules.specs.State.{Entry, stood}
 use Rattle.st_rules.specs.ExceptionRows.{closure_of}
-use Rattle.st_rules.specs.Rules.{closure_for}
+use Rattle.st_rules.specs.Rules.{closure_for, handler_by}
 use Rattle.st_rules.specs.Ends as rules
-use Rattle.st_rules.specs.Flat.{code_at}
+use Rattle.st_rules.specs.Machine.{Begin, HandlerRun}
+use Rattle.st_rules.specs.Flat.{FlatBody, flat, code_at}
+use Rattle.st_rules.specs.Turns.{Top, On, top_iter}
 use Rattle.st_machine.specs.declared.work.Mode.TheVariants as mode
 use Rattle.st_machine.specs.declared.work.Work.{Work}
 use Rattle.st_machine.specs.declared.work.Work.TheVariants as work
-use Rattle.st_machine.specs.Seen.{Plan, Passed, Seen}
+use Rattle.st_machine.specs.Seen.{Plan, Passed, Seen, passing}
 use Rattle.st_machine.specs.Plans.{program_in}
 use Rattle.st_machine.specs.Opening.{closure_in, fitting}
-use Rattle.st_machine.specs.Searches.{turn_for, asks_nested, handler_of, nothing_passed}
+use Rattle.st_machine.specs.Searches.{turn_for, asks_nested, handler_of, handler_begun}
 use Rattle.st_machine.specs.Works.{begun, begun_told}
-use Rattle.st_machine.specs.Meaning.{top_of, env_of, entry_named, entry_seen, search_of, turn_of, events_of}
+use Rattle.st_machine.specs.Meaning.{top_of, acts_of, target_in, behind, env_of, entry_named, entry_seen, search_of, turn_of, events_of}
 use Rattle.st_machine.specs.Followed.{Falling}
 use Rattle.st_machine.proofs.Links.{other_number, env_skip}
 use Rattle.st_machine.proofs.Furnishing.{same_parameters}
@@ -62,6 +64,10 @@ turn_by acts e who whole purpose.IsNested entry outside = refl
 
 turn_same : (acts : List Standing) (x : SearchState) (entry : Option ℕ) (outside : Env) → rules.turn_for (search_of acts x) (option_map (entry_named acts) entry) (env_of acts outside) ≡ turn_of acts (turn_for x entry outside)
 turn_same acts x entry outside = turn_by acts x.exception x.who x.whole x.purpose entry outside
+
+number_same : (acts : List Standing) (entry : ℕ) → (entry_named acts entry).number ≡ entry
+unfolding entry_named
+number_same acts entry = refl
 
 handler_same : (acts : List Standing) (entry : ℕ) → (entry_named acts entry).handler ≡ handler_of entry acts
 unfolding entry_named
@@ -135,13 +141,17 @@ module _ (plan : Plan) (next depth width : ℕ) (vars : List Value) (passed : Pa
         abbrev w : Work
         w = work.TurnBy x (Some entry) outside
 
+        -- the turn stands, and nothing is passed on
         abbrev emptied : Seen
-        emptied = nothing_passed (here w)
+        emptied = record { plan = plan; stack = record { acts = turn (Some entry) ∷ acts; next = next + 1; depth = depth; width = width }; memory = mem; variables = vars; passed = passing [] passed; mode = mode.Begin w; steps = steps; deepest = max deepest (length acts + 1); initializers = inits; instructions = instrs }
+
+        abbrev chosen : Closure → ℕ → Option Closure
+        chosen c k = elim (nat_eq k 0) [ true ↦ Some c | false ↦ None ]
 
         fit_same : (n : ℕ) (o : Option Closure) → closure_at n mem.store ≡ o → closure_for p mem.store (value.Object n) 0 ≡ fitting o emptied
         unfolding closure_for closure_of
         fit_same n None is = rw is refl
-        fit_same n (Some c) is = rw is (ap (λ k. elim (nat_eq k 0) [ true ↦ Some c | false ↦ None ]) (sym (same_parameters p plan.codes c.code compiled)))
+        fit_same n (Some c) is = rw is (ap (chosen c) (sym (same_parameters p plan.codes c.code compiled)))
 
         closure_same : (v : Value) → closure_for p mem.store v 0 ≡ fitting (closure_in v emptied) emptied
         unfolding closure_for closure_of
@@ -159,15 +169,24 @@ module _ (plan : Plan) (next depth width : ℕ) (vars : List Value) (passed : Pa
         abbrev handler : Value
         handler = handler_of entry acts
 
-        handles_by : (o : Option Closure) → nat_lt 0 passed.room ≡ true → asks_nested x.purpose ≡ false → nat_le (length acts + 1) depth ≡ true → nat_le (length acts + 1) p.depth_limit ≡ true → closure_for p mem.store handler 0 ≡ o → fitting (closure_in handler emptied) emptied ≡ o → Law w
+        abbrev applied : Option Closure → Top FlatBody
+        applied o = On (target_in p inits) (behind p inits) (Begin (handler_by o handler x.exception (env_of acts outside)) (HandlerRun next (turn_of acts (turn_for x (Some entry) outside)) ∷ acts_of acts) (record { store = mem.store; variables = vars; transcript = tr; events = ev ++ Event.Handle next entry ∷ []; steps = steps; depth = max deepest (length acts + 1); cells = mem.used; next = next + 1 }))
+
+        applies_left : (o : Option Closure) → asks_nested x.purpose ≡ false → nat_le (length acts + 1) p.depth_limit ≡ true → closure_for p mem.store handler 0 ≡ o → top_iter (flat p plan.codes width) p 1 (top_of tr ev (here w)) ≡ applied o
         unfolding stood
-        handles_by None room is d d' c c' = record { count = 1; comes = rw (nested_same acts x, is, other_number next 18446744073709551615 numbers, marks_length acts, d, d', handler_same acts entry, c, c', room, turn_same acts x (Some entry) outside, env_skip (turn (Some entry)) acts outside below) refl }
-        handles_by (Some k) room is d d' c c' = record { count = 1; comes = rw (nested_same acts x, is, other_number next 18446744073709551615 numbers, marks_length acts, d, d', handler_same acts entry, c, c', turn_same acts x (Some entry) outside, env_skip (turn (Some entry)) acts outside below) refl }
+        applies_left o is d' c = rw (nested_same acts x, is, marks_length acts, d', handler_same acts entry, c, number_same acts entry, turn_same acts x (Some entry) outside) refl
+
+        applies_right : (o : Option Closure) → nat_lt 0 passed.room ≡ true → applied o ≡ top_of tr (ev ++ Event.Handle next entry ∷ []) (handler_begun o handler x.exception outside emptied)
+        applies_right None room = rw (room, env_skip (turn (Some entry)) acts outside below) refl
+        applies_right (Some k) room = rw (env_skip (turn (Some entry)) acts outside below) refl
+
+        ends_so : asks_nested x.purpose ≡ false → nat_le (length acts + 1) depth ≡ true → top_of tr (ev ++ Event.Handle next entry ∷ []) (handler_begun (fitting (closure_in handler emptied) emptied) handler x.exception outside emptied) ≡ top_of tr (ev ++ events_of (begun_told w (here w))) (begun w (here w))
+        ends_so is d = rw (is, other_number next 18446744073709551615 numbers, d) refl
 
         handles_at : (b : Bool) → nat_lt 0 passed.room ≡ true → asks_nested x.purpose ≡ false → nat_le (length acts + 1) depth ≡ b → nat_le (length acts + 1) p.depth_limit ≡ b → Law w
         unfolding stood
         handles_at false room is d d' = record { count = 1; comes = rw (nested_same acts x, is, other_number next 18446744073709551615 numbers, marks_length acts, d, d', append-nil ev) refl }
-        handles_at true room is d d' = handles_by (fitting (closure_in handler emptied) emptied) room is d d' (closure_same handler) refl
+        handles_at true room is d d' = record { count = 1; comes = applies_left (fitting (closure_in handler emptied) emptied) is d' (closure_same handler) ∙ applies_right (fitting (closure_in handler emptied) emptied) room ∙ ends_so is d }
 
       turns_at : (entry : Option ℕ) → plan.codes ≡ compile_of p → nat_lt 0 passed.room ≡ true → asks_nested x.purpose ≡ false → Law (work.TurnBy x entry outside)
       turns_at None compiled room is = defaults (nat_le (length acts + 1) depth) is refl (place_same (nat_le (length acts + 1) depth) refl)

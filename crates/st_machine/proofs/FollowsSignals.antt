@@ -2,7 +2,9 @@
 use Rattle.std.proofs.Common.{◌≡◌, ℕ, suc, ◌+◌, ◌-◌, ◌/◌, ◌<◌, ◌^◌, max, List, [], ◌∷◌, ◌++◌, length, Bool, true, false, nat_eq, nat_le, if◌then◌else◌, refl, ap, sym, ◌∙◌, arith}
 use Rattle.std.proofs.lemmas.List.{append-nil, append_assoc}
 use Rattle.object_heap.specs.declared.value.Value.{Value}
+use Rattle.object_heap.specs.declared.value.Value.TheVariants.{Object}
 use Rattle.object_heap.specs.declared.trouble.Trouble.{Trouble}
+use Rattle.object_heap.specs.Troubles.{place_of}
 use Rattle.object_heap.specs.Store.{Store}
 use Rattle.object_heap.specs.Charges.{Memory, object_charge}
 use Rattle.st_code.specs.Texts.{Text}
@@ -16,7 +18,7 @@ use Rattle.signal_env.specs.Turns.{signals, live_in}
 use Rattle.st_rules.specs.Events.{Event}
 use Rattle.st_rules.specs.State.{State, Mark, stood, used, is_live}
 use Rattle.st_rules.specs.Rules.{RaiseNew, SearchIn, with_exception, exception_cells}
-use Rattle.st_rules.specs.Ends.{signal_search}
+use Rattle.st_rules.specs.Ends.{signal_search, trouble_text}
 use Rattle.st_rules.specs.Machine.{Mach, Begin, SignalAct, mark_of, marks}
 use Rattle.st_rules.specs.Flat.{FlatBody, flat, flat_number}
 use Rattle.st_rules.specs.Turns.{Top, On, top_iter}
@@ -153,4 +155,7 @@ module _ (plan : Plan) (next depth width : ℕ) (vars : List Value) (passed : Pa
     raises_new class env below = news (work.RaiseNew class env) class passed.values env below
 
     pub fails : (trouble : Trouble) (env : Env) → env.0 < next → plan.troubles ≡ p.trouble_place → Law (work.Fail trouble env)
-    fails trouble env below same = let r : Comes plan width (top_of tr ev (here (work.Fail trouble env))) (top_of tr (ev ++ events_of (begun_told (work.Fail trouble env) (here (work.Fail trouble env)))) (begun (work.Fail trouble env) (here (work.Fail trouble env)))) = rw (← same) (news (work.Fail trouble env) error_class (text_in plan trouble ∷ []) env below) in r
+    fails trouble env below same =
+      let c = news (work.Fail trouble env) error_class (text_in plan trouble ∷ []) env below in
+      let text : text_in plan trouble ≡ trouble_text p trouble = ap (λ n. Object (n + place_of trouble)) same in
+      record { count = c.count; comes = ap (λ v. top_iter (flat p plan.codes width) p c.count (goes (Begin (RaiseNew error_class (v ∷ []) (env_of acts env)) (acts_of acts) (state_of tr ev (here (work.Fail trouble env)))))) (sym text) ∙ c.comes }

@@ -12,4 +12,5 @@ pub mod FollowsInitializers
 pub mod FollowsSettling
 pub mod FollowsSignals
 pub mod FollowsSearches
+pub mod FollowsControls
 pub mod Follows

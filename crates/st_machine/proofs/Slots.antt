@@ -65,16 +65,16 @@ put_values (suc n) vs class capacity os closures ss pre =
     rw (written class capacity os closures ss pre Nil (first vs) (replicate n Nil), more_length pre (first vs), ← append_assoc pre (first vs ∷ []) (replicate n Nil), ← append_assoc pre (first vs ∷ []) (padded n (but_first vs)))
     (put_values n (but_first vs) class capacity os closures ss (pre ++ first vs ∷ []))
 
-padded_none : (n : ℕ) → padded n [] ≡ take n ([] ++ replicate (n - 0) Nil)
+padded_none : (n : ℕ) → padded n [] ≡ take n (replicate n Nil)
 unfolding padded
 padded_none zero = refl
-padded_none (suc n) =
-    let same : n - 0 ≡ n = omega arith in
-    ap (λ r. Nil ∷ r) (padded_none n ∙ ap (λ k. take n (replicate k Nil)) same)
+padded_none (suc n) = ap (λ r. Nil ∷ r) (padded_none n)
 
 padded_is : (n : ℕ) (vs : List Value) → padded n vs ≡ take n (vs ++ replicate (n - length vs) Nil)
 unfolding padded
-padded_is n [] = padded_none n
+padded_is n [] =
+    let same : n ≡ n - 0 = omega arith in
+    padded_none n ∙ ap (λ k. take n (replicate k Nil)) same
 padded_is zero (v ∷ vs) = refl
 padded_is (suc n) (v ∷ vs) =
     let less : suc n - suc (length vs) ≡ n - length vs = omega arith in

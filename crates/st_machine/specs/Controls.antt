@@ -3,6 +3,7 @@ use Rattle.std.specs.Prelude.{ℕ, Bool, true, false, Option, Some, None}
 use Rattle.object_heap.specs.declared.value.Value.{Value}
 use Rattle.object_heap.specs.declared.value.Value.TheVariants.{Nil, Object}
 use Rattle.object_heap.specs.declared.trouble.Trouble.TheVariants.{ExceptionExpected, AlreadySignaled, NotActive}
+use Rattle.st_code.specs.Messages.{Control as Message}
 use Rattle.st_code.specs.Lookup.{is_exception}
 use Rattle.st_contexts.specs.declared.activation.Env.{Env}
 use Rattle.st_contexts.specs.declared.activation.Turn.{Turn}
@@ -22,6 +23,17 @@ use Rattle.st_machine.specs.Seen.{Seen}
 use Rattle.st_machine.specs.Plans.{program_in}
 use Rattle.st_machine.specs.Opening.{settling, beginning}
 use Rattle.st_machine.specs.Settling.{search_of, searching}
+
+-- a message as the table of messages has it
+abbrev pub control_of : Control → Message
+control_of control.Return = Message.Return
+control_of control.Retry = Message.Retry
+control_of control.RetryUsing = Message.RetryUsing
+control_of control.Resume = Message.Resume
+control_of control.Pass = Message.Pass
+control_of control.Outer = Message.Outer
+control_of control.ResignalAs = Message.ResignalAs
+control_of control.IsNested = Message.IsNested
 
 -- ---- `resignalAs:`
 
