@@ -1,7 +1,8 @@
 -- A program finds what its image finds, has its names, and as many slots in each class.
 use Rattle.std.proofs.Common.{◌≡◌, ℕ, zero, suc, ◌<◌, ◌≤◌, List, [], ◌∷◌, length, get_or, map, codes, refl, sym, ◌∙◌, ap, arith}
 use Rattle.object_heap.specs.declared.value.Value.{Value}
-use Rattle.object_heap.specs.Store.{Store}
+use Rattle.object_heap.specs.declared.value.Value.TheVariants.{Object}
+use Rattle.object_heap.specs.Store.{Store, object_at}
 use Rattle.st_base.specs.BuiltIns.{messages}
 use Rattle.st_code.specs.Texts.{Text}
 use Rattle.st_tree.specs.declared.units.Unit.{Unit}
@@ -10,7 +11,8 @@ use Rattle.st_code.specs.Resolved.{ClassNames, no_names, class_names_at}
 use Rattle.st_code.specs.Definitions.{RunLimits, program_of, class_row}
 use Rattle.st_code.specs.Written.{named_units}
 use Rattle.program_image.specs.Spelled.{names_in}
-use Rattle.st_code.specs.Lookup.{is_plain, fits, inherits}
+use Rattle.st_code.specs.Lookup.{is_plain, fits, inherits, is_exception}
+use Rattle.st_code.specs.BuiltIns.{exception_class}
 use Rattle.program_image.specs.declared.class.Class.{Class}
 use Rattle.program_image.specs.Classes.{seen_class}
 use Rattle.program_image.specs.Images.{image_names, image_program}
@@ -36,6 +38,10 @@ inherits_same plan class ancestor = (searches_alike plan.units (limits_of plan.l
 pub number_same : (plan : Plan) (t : Text) → number_of (program_in plan) t ≡ number_of (image_program plan.units) t
 unfolding number_of program_of image_program image_names
 number_same plan t = refl
+
+pub exception_same : (plan : Plan) (s : Store) (n : ℕ) → inherits (image_program plan.units) (object_at n s).class exception_class ≡ is_exception (program_in plan) s (Object n)
+unfolding is_exception
+exception_same plan s n = sym (inherits_same plan (object_at n s).class exception_class)
 
 -- ---- slots
 

@@ -8,7 +8,7 @@ use Rattle.object_heap.specs.declared.value.Closure.{Closure}
 use Rattle.object_heap.specs.Store.{object_at, closure_at}
 use Rattle.object_heap.specs.Charges.{Memory}
 use Rattle.st_code.specs.Texts.{Text}
-use Rattle.st_code.specs.Program.{Program}
+use Rattle.st_code.specs.Program.{Program, body_at}
 use Rattle.st_code.specs.Compiled.{compile_of}
 use Rattle.st_code.specs.Lookup.{is_plain, fits}
 use Rattle.st_contexts.specs.declared.activation.Activation.TheVariants as act
@@ -145,13 +145,18 @@ module _ (plan : Plan) (next depth width : ℕ) (vars : List Value) (passed : Pa
         abbrev emptied : Seen
         emptied = record { plan = plan; stack = record { acts = turn (Some entry) ∷ acts; next = next + 1; depth = depth; width = width }; memory = mem; variables = vars; passed = passing [] passed; mode = mode.Begin w; steps = steps; deepest = max deepest (length acts + 1); initializers = inits; instructions = instrs }
 
-        abbrev chosen : Closure → ℕ → Option Closure
-        chosen c k = elim (nat_eq k 0) [ true ↦ Some c | false ↦ None ]
+        abbrev chosen : Closure → Bool → Option Closure
+        chosen c b = elim b [ true ↦ Some c | false ↦ None ]
+
+        fit_by : (n : ℕ) (c : Closure) (b : Bool) → closure_at n mem.store ≡ Some c → nat_eq (code_at plan.codes c.code).parameters 0 ≡ b → nat_eq (body_at p c.code).parameters 0 ≡ b → closure_for p mem.store (value.Object n) 0 ≡ fitting (Some c) emptied
+        unfolding closure_for closure_of
+        fit_by n c true is e e' = rw (is, e) (ap (chosen c) e')
+        fit_by n c false is e e' = rw (is, e) (ap (chosen c) e')
 
         fit_same : (n : ℕ) (o : Option Closure) → closure_at n mem.store ≡ o → closure_for p mem.store (value.Object n) 0 ≡ fitting o emptied
         unfolding closure_for closure_of
         fit_same n None is = rw is refl
-        fit_same n (Some c) is = rw is (ap (chosen c) (sym (same_parameters p plan.codes c.code compiled)))
+        fit_same n (Some c) is = fit_by n c (nat_eq (code_at plan.codes c.code).parameters 0) is refl (ap (λ k. nat_eq k 0) (sym (same_parameters p plan.codes c.code compiled)))
 
         closure_same : (v : Value) → closure_for p mem.store v 0 ≡ fitting (closure_in v emptied) emptied
         unfolding closure_for closure_of
@@ -173,7 +178,7 @@ module _ (plan : Plan) (next depth width : ℕ) (vars : List Value) (passed : Pa
         applied o = On (target_in p inits) (behind p inits) (Begin (handler_by o handler x.exception (env_of acts outside)) (HandlerRun next (turn_of acts (turn_for x (Some entry) outside)) ∷ acts_of acts) (record { store = mem.store; variables = vars; transcript = tr; events = ev ++ Event.Handle next entry ∷ []; steps = steps; depth = max deepest (length acts + 1); cells = mem.used; next = next + 1 }))
 
         applies_left : (o : Option Closure) → asks_nested x.purpose ≡ false → nat_le (length acts + 1) p.depth_limit ≡ true → closure_for p mem.store handler 0 ≡ o → top_iter (flat p plan.codes width) p 1 (top_of tr ev (here w)) ≡ applied o
-        unfolding stood
+        unfolding stood target_in behind env_of entry_named
         applies_left o is d' c = rw (nested_same acts x, is, marks_length acts, d', handler_same acts entry, c, number_same acts entry, turn_same acts x (Some entry) outside) refl
 
         applies_right : (o : Option Closure) → nat_lt 0 passed.room ≡ true → applied o ≡ top_of tr (ev ++ Event.Handle next entry ∷ []) (handler_begun o handler x.exception outside emptied)

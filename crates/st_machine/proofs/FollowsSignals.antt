@@ -156,6 +156,6 @@ module _ (plan : Plan) (next depth width : ℕ) (vars : List Value) (passed : Pa
 
     pub fails : (trouble : Trouble) (env : Env) → env.0 < next → plan.troubles ≡ p.trouble_place → Law (work.Fail trouble env)
     fails trouble env below same =
-      let c = news (work.Fail trouble env) error_class (text_in plan trouble ∷ []) env below in
-      let text : text_in plan trouble ≡ trouble_text p trouble = ap (λ n. Object (n + place_of trouble)) same in
-      record { count = c.count; comes = ap (λ v. top_iter (flat p plan.codes width) p c.count (goes (Begin (RaiseNew error_class (v ∷ []) (env_of acts env)) (acts_of acts) (state_of tr ev (here (work.Fail trouble env)))))) (sym text) ∙ c.comes }
+        let c = news (work.Fail trouble env) error_class (text_in plan trouble ∷ []) env below in
+        let text : text_in plan trouble ≡ trouble_text p trouble = ap (λ n. Object (n + place_of trouble)) same in
+        record { count = c.count; comes = ap (λ v. top_iter (flat p plan.codes width) p c.count (goes (Begin (RaiseNew error_class (v ∷ []) (env_of acts env)) (acts_of acts) (state_of tr ev (here (work.Fail trouble env)))))) (sym text) ∙ c.comes }

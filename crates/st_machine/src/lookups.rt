@@ -24,8 +24,9 @@ impl Loaded {
     pub fn is_plain<H: Heap>(&self, heap: &H, selector: Value) -> bool
         ensures { result ≡ code.is_plain (program_in self.now) (H.meaning heap.now).store selector }
     {
-        let handles = selector_number(self.image(), b"handles:");
-        is_plain(heap, self.image(), handles, selector)
+        let image = self.image();
+        let handles = selector_number(image, b"handles:");
+        is_plain(heap, image, handles, selector)
     }
 
     /// Whether a plain selector of `on:do:` fits exceptions of a class.

@@ -1,12 +1,14 @@
 // How handlers are searched, and the turns that run them (ANSI NCITS 319, 5.5).
 ghost use Rattle.std.specs.Prelude.{◌≡◌, true};
 ghost use Rattle.st_machine.specs.Settling.{judged};
-ghost use Rattle.st_machine.specs.Searches.{fits_here, inquired, inquiry_told, examined_by, examined_told, searched, search_told, resume_of, signal_of, turn_for, asks_nested, is_there, handler_of, handler_applied, handled, handled_told, defaulted, default_told, turned_at, turn_told_at, turned, turn_told, resumability_asked};
+ghost use Rattle.st_machine.specs.Searches.{sending, fits_here, inquired, inquiry_told, examined_by, examined_told, searched, search_told, resume_of, signal_of, turn_for, asks_nested, is_there, handler_of, handler_applied, handled, handled_told, defaulted, default_told, turned_at, turn_told_at, turned, turn_told, resumability_asked};
 
 use crate::machine::Machine;
 use crate::work::{Mode, Told, Work};
 use object_heap::{Heap, Value};
-use st_contexts::{Activation, Contexts, Entry, Env, Event, Limit, Outcome, Purpose, SearchState, Turn, Wait};
+use st_contexts::{
+    Activation, Contexts, Entry, Env, Event, Limit, Outcome, Purpose, SearchState, Turn, Wait,
+};
 
 // The number of the activation that a turn of this purpose resumes.
 fn resume_of(who: u64, purpose: Purpose) -> u64
@@ -202,6 +204,18 @@ impl<H: Heap> Machine<H> {
         }
     }
 
+    // A selector without arguments is sent.
+    fn send_unary(&mut self, selector: u32, receiver: Value, env: Env)
+        ensures { self.new ≡ sending selector receiver env self.old }
+    {
+        self.passed.clear();
+        self.mode = Mode::Begin(Work::SendTo {
+            selector,
+            receiver,
+            env,
+        });
+    }
+
     // A turn runs the default action.
     fn default(&mut self, search: SearchState, outside: Env) -> Told
         ensures defaulted { self.new ≡ defaulted search outside self.old }
@@ -210,12 +224,8 @@ impl<H: Heap> Machine<H> {
         let turn = turn_for(search, None, outside);
         match self.stand(Activation::HandlerRun { turn }, outside) {
             Some(number) => {
-                self.passed.clear();
-                self.mode = Mode::Begin(Work::SendTo {
-                    selector: self.loaded.selector(b"defaultAction"),
-                    receiver: Value::Object(search.exception),
-                    env: outside,
-                });
+                let selector = self.loaded.selector(b"defaultAction");
+                self.send_unary(selector, Value::Object(search.exception), outside);
                 Told::One(Event::Default(number))
             }
             None => {
@@ -254,12 +264,8 @@ impl<H: Heap> Machine<H> {
     {
         match self.stand(Activation::ResumeWait { wait, number, turn }, env) {
             Some(_) => {
-                self.passed.clear();
-                self.mode = Mode::Begin(Work::SendTo {
-                    selector: self.loaded.selector(b"isResumable"),
-                    receiver: Value::Object(turn.exception),
-                    env,
-                });
+                let selector = self.loaded.selector(b"isResumable");
+                self.send_unary(selector, Value::Object(turn.exception), env);
             }
             None => self.settle_with(Outcome::Stop(Limit::Depth)),
         }
