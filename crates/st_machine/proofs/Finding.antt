@@ -6,7 +6,7 @@ use Rattle.object_heap.specs.Store.{Store, object_at}
 use Rattle.st_base.specs.BuiltIns.{messages}
 use Rattle.st_code.specs.Texts.{Text}
 use Rattle.st_tree.specs.declared.units.Unit.{Unit}
-use Rattle.st_code.specs.Program.{ClassRow, class_at, number_of}
+use Rattle.st_code.specs.Program.{class_at, number_of}
 use Rattle.st_code.specs.Resolved.{ClassNames, no_names, class_names_at}
 use Rattle.st_code.specs.Definitions.{RunLimits, program_of, class_row}
 use Rattle.st_code.specs.Written.{named_units}

@@ -1,5 +1,5 @@
 -- What a turn's exception is told is what the flat machine makes of it.
-use Rattle.std.proofs.Common.{◌≡◌, ℕ, ◌+◌, ◌<◌, List, [], ◌∷◌, ◌++◌, Bool, true, false, nat_eq, Option, Some, None, if◌then◌else◌, refl, ap, sym, ◌∙◌}
+use Rattle.std.proofs.Common.{◌≡◌, ℕ, ◌<◌, List, [], ◌∷◌, ◌++◌, Bool, true, false, nat_eq, Option, Some, None, refl, ap, sym, ◌∙◌}
 use Rattle.std.specs.Option.{option_map}
 use Rattle.std.proofs.lemmas.List.{append-nil}
 use Rattle.object_heap.specs.declared.value.Value.{Value}
@@ -16,8 +16,8 @@ use Rattle.st_contexts.specs.Stack.{Standing}
 use Rattle.signal_env.specs.declared.turns.FoundTurn as found
 use Rattle.signal_env.specs.Turns.{turn_in, live_in}
 use Rattle.st_rules.specs.Events.{Event}
-use Rattle.st_rules.specs.State.{State, Mark, FoundTurn, NoTurn, TurnAt, is_live, turn_of as innermost}
-use Rattle.st_rules.specs.Machine.{Mach, mark_of, marks, resignal_as_act, control_by_act, control_without_act, control_in_act, control_act}
+use Rattle.st_rules.specs.State.{State, FoundTurn, NoTurn, TurnAt, turn_of as innermost}
+use Rattle.st_rules.specs.Machine.{Mach, marks, resignal_as_act, control_by_act, control_without_act, control_in_act, control_act}
 use Rattle.st_rules.specs.Flat.{FlatBody, flat, flat_number}
 use Rattle.st_rules.specs.Turns.{Top, On}
 use Rattle.st_machine.specs.declared.controls.Control.{Control}
@@ -26,7 +26,7 @@ use Rattle.st_machine.specs.declared.work.Mode.{Mode}
 use Rattle.st_machine.specs.Seen.{Plan, Passed, Seen}
 use Rattle.st_machine.specs.Plans.{program_in}
 use Rattle.st_machine.specs.Controls.{resignaled_as, controlled_by, control_told_by, controlled_without, controlled_in, control_told_in, controlled_at, control_told_at, controlled, control_told, control_of}
-use Rattle.st_machine.specs.Meaning.{top_of, state_of, acts_of, act_by, env_of, entry_named, turn_of, events_of, target_in, behind}
+use Rattle.st_machine.specs.Meaning.{top_of, state_of, acts_of, env_of, entry_named, turn_of, events_of, target_in, behind}
 use Rattle.st_machine.specs.Followed.{Falling, TurnBelow, KeptBelow}
 use Rattle.st_machine.proofs.Links.{same_eq, turn_skip}
 use Rattle.st_machine.proofs.FollowsSettling.{turn_further}

@@ -1,17 +1,17 @@
 -- What is done where nothing stands is what the flat machine does: a value is kept, and the next initializer is opened.
-use Rattle.std.proofs.Common.{◌≡◌, ℕ, suc, zero, ◌+◌, ◌-◌, ◌<◌, ◌≤◌, ◌^◌, List, [], ◌∷◌, map, drop, slice_get, slice_set, Option, Some, None, refl, ap, sym, ◌∙◌, arith}
+use Rattle.std.proofs.Common.{◌≡◌, ℕ, suc, zero, ◌+◌, ◌-◌, ◌<◌, ◌≤◌, ◌^◌, List, [], ◌∷◌, map, drop, slice_get, Option, Some, None, refl, ap, sym, ◌∙◌, arith}
 use Rattle.object_heap.specs.declared.value.Value.{Value}
 use Rattle.object_heap.specs.Charges.{Memory}
 use Rattle.st_code.specs.Texts.{Text}
 use Rattle.st_code.specs.Program as program
 use Rattle.st_code.specs.Program.{Program, InInitializer}
 use Rattle.st_code.specs.Compiled.{compile_of, count_uncaptured}
-use Rattle.st_contexts.specs.Stack.{Standing, env_in}
+use Rattle.st_contexts.specs.Stack.{env_in}
 use Rattle.st_contexts.specs.declared.outcome.Outcome.TheVariants as outcome
 use Rattle.st_rules.specs.Events.{Event}
 use Rattle.st_rules.specs.State.{Env}
 use Rattle.st_rules.specs.Ends.{Opening}
-use Rattle.st_rules.specs.Machine.{Mach, open_act}
+use Rattle.st_rules.specs.Machine.{open_act}
 use Rattle.st_rules.specs.Flat.{FlatBody, flat, code_at}
 use Rattle.st_rules.specs.Runs.{kept_value}
 use Rattle.st_rules.specs.Turns.{Top, On, open_next, top_iter}
@@ -20,7 +20,7 @@ use Rattle.st_machine.specs.declared.work.Mode.{Mode}
 use Rattle.st_machine.specs.declared.work.Mode.TheVariants as mode
 use Rattle.st_machine.specs.Seen.{Plan, Passed, Seen, passing, with_mode}
 use Rattle.st_machine.specs.Plans.{program_in}
-use Rattle.st_machine.specs.Initializers.{seen_initializer, opened_by, next_opened, target_by, target_on, kept_at, value_kept}
+use Rattle.st_machine.specs.Initializers.{seen_initializer, opened_by, next_opened, target_by, kept_at, value_kept}
 use Rattle.st_machine.specs.Meaning.{top_of, state_of, target_in, behind, env_of}
 use Rattle.st_machine.proofs.Furnishing.{same_class}
 use Rattle.st_machine.proofs.FollowsOpening.{seen, opens}

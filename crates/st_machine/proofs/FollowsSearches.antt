@@ -1,5 +1,5 @@
 -- What a search makes of the next entry, and the turn that it begins, are small steps of the flat machine.
-use Rattle.std.proofs.Common.{◌≡◌, ℕ, suc, ◌+◌, ◌-◌, ◌<◌, ◌^◌, max, List, [], ◌∷◌, ◌++◌, length, Bool, true, false, nat_eq, nat_lt, nat_le, Option, Some, None, if◌then◌else◌, refl, ap, sym, ◌∙◌, arith}
+use Rattle.std.proofs.Common.{◌≡◌, ℕ, ◌+◌, ◌-◌, ◌<◌, ◌^◌, max, List, [], ◌∷◌, ◌++◌, length, Bool, true, false, nat_eq, nat_lt, nat_le, Option, Some, None, refl, ap, sym, ◌∙◌, arith}
 use Rattle.std.specs.Option.{option_map}
 use Rattle.std.proofs.lemmas.List.{append-nil}
 use Rattle.object_heap.specs.declared.value.Value.{Value}
@@ -21,7 +21,7 @@ use Rattle.st_contexts.specs.declared.activation.Purpose.{Purpose}
 use Rattle.st_contexts.specs.declared.activation.Purpose.TheVariants as purpose
 use Rattle.st_contexts.specs.Stack.{Standing, entry_in}
 use Rattle.st_rules.specs.Events.{Event}
-use Rattle.st_rules.specs.State.{Entry, stood}
+use Rattle.st_rules.specs.State.{stood}
 use Rattle.st_rules.specs.ExceptionRows.{closure_of}
 use Rattle.st_rules.specs.Rules.{closure_for, handler_by}
 use Rattle.st_rules.specs.Ends as rules
@@ -36,7 +36,7 @@ use Rattle.st_machine.specs.Plans.{program_in}
 use Rattle.st_machine.specs.Opening.{closure_in, fitting}
 use Rattle.st_machine.specs.Searches.{turn_for, asks_nested, handler_of, handler_begun}
 use Rattle.st_machine.specs.Works.{begun, begun_told}
-use Rattle.st_machine.specs.Meaning.{top_of, acts_of, target_in, behind, env_of, entry_named, entry_seen, search_of, turn_of, events_of}
+use Rattle.st_machine.specs.Meaning.{top_of, acts_of, target_in, behind, env_of, entry_named, search_of, turn_of, events_of}
 use Rattle.st_machine.specs.Followed.{Falling}
 use Rattle.st_machine.proofs.Links.{other_number, env_skip}
 use Rattle.st_machine.proofs.Furnishing.{same_parameters}

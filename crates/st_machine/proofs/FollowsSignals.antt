@@ -1,5 +1,5 @@
 -- A signal is one or two small steps of the flat machine.
-use Rattle.std.proofs.Common.{◌≡◌, ℕ, suc, ◌+◌, ◌-◌, ◌/◌, ◌<◌, ◌^◌, max, List, [], ◌∷◌, ◌++◌, length, Bool, true, false, nat_eq, nat_le, if◌then◌else◌, refl, ap, sym, ◌∙◌, arith}
+use Rattle.std.proofs.Common.{◌≡◌, ℕ, ◌+◌, ◌-◌, ◌<◌, ◌^◌, max, List, [], ◌∷◌, ◌++◌, length, Bool, true, false, nat_le, if◌then◌else◌, refl, ap, sym, ◌∙◌, arith}
 use Rattle.std.proofs.lemmas.List.{append-nil, append_assoc}
 use Rattle.object_heap.specs.declared.value.Value.{Value}
 use Rattle.object_heap.specs.declared.value.Value.TheVariants.{Object}
@@ -9,7 +9,7 @@ use Rattle.object_heap.specs.Store.{Store}
 use Rattle.object_heap.specs.Charges.{Memory, object_charge}
 use Rattle.st_code.specs.Texts.{Text}
 use Rattle.st_code.specs.BuiltIns.{error_class}
-use Rattle.st_code.specs.Program.{Program, class_at}
+use Rattle.st_code.specs.Program.{Program}
 use Rattle.st_contexts.specs.declared.activation.Activation.{Activation}
 use Rattle.st_contexts.specs.declared.activation.Activation.TheVariants as act
 use Rattle.st_contexts.specs.declared.activation.Env.{Env}

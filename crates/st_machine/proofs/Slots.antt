@@ -6,7 +6,7 @@ use Rattle.object_heap.specs.declared.value.Value.TheVariants.{Nil}
 use Rattle.object_heap.specs.declared.value.Closure.{Closure}
 use Rattle.object_heap.specs.Store.{Store, Scope, Object, no_object, with_slot, object_added, blank_object}
 use Rattle.object_heap.specs.Charges.{Memory, with_store}
-use Rattle.st_collections.specs.Actions.{first, with_new, new_object}
+use Rattle.st_collections.specs.Actions.{first, with_new}
 use Rattle.st_code.specs.Program.{Program, class_at}
 use Rattle.st_rules.specs.Rules.{exception_slots, with_exception}
 use Rattle.st_machine.specs.Operands.{but_first}

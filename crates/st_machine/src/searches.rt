@@ -1,5 +1,6 @@
 // How handlers are searched, and the turns that run them (ANSI NCITS 319, 5.5).
 ghost use Rattle.std.specs.Prelude.{◌≡◌, true};
+ghost use Rattle.st_machine.specs.Opening.{stood, stood_number};
 ghost use Rattle.st_machine.specs.Settling.{judged};
 ghost use Rattle.st_machine.specs.Searches.{sending, fits_here, inquired, inquiry_told, examined_by, examined_told, searched, search_told, resume_of, signal_of, turn_for, asks_nested, is_there, handler_of, handler_applied, handled, handled_told, defaulted, default_told, turned_at, turn_told_at, turned, turn_told, resumability_asked};
 
@@ -182,14 +183,22 @@ impl<H: Heap> Machine<H> {
         }
     }
 
+    // The turn of a search stands, unless as many activations stand as may.
+    fn stand_turn(&mut self, search: SearchState, entry: Option<u64>, outside: Env) -> Option<u64>
+        ensures stood { self.new ≡ stood (Activation.HandlerRun (turn_for search entry outside)) outside self.old }
+        ensures number { result ≡ stood_number self.old }
+    {
+        let turn = turn_for(search, entry, outside);
+        self.stand(Activation::HandlerRun { turn }, outside)
+    }
+
     // A turn runs the handler of an entry.
     fn handle(&mut self, search: SearchState, entry: u64, outside: Env) -> Told
         ensures handled { self.new ≡ handled search entry outside self.old }
         ensures told { result ≡ handled_told entry self.old }
     {
         let handler = handler_of(&self.contexts, entry);
-        let turn = turn_for(search, Some(entry), outside);
-        match self.stand(Activation::HandlerRun { turn }, outside) {
+        match self.stand_turn(search, Some(entry), outside) {
             Some(number) => {
                 self.apply_handler(handler, search.exception, outside);
                 Told::One(Event::Handle {
@@ -221,8 +230,7 @@ impl<H: Heap> Machine<H> {
         ensures defaulted { self.new ≡ defaulted search outside self.old }
         ensures told { result ≡ default_told self.old }
     {
-        let turn = turn_for(search, None, outside);
-        match self.stand(Activation::HandlerRun { turn }, outside) {
+        match self.stand_turn(search, None, outside) {
             Some(number) => {
                 let selector = self.loaded.selector(b"defaultAction");
                 self.send_unary(selector, Value::Object(search.exception), outside);

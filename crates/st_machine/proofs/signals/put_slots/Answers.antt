@@ -1,4 +1,4 @@
-use Rattle.std.proofs.Common.{sym, ◌∙◌, ap, arith, drop}
+use Rattle.std.proofs.Common.{sym, ◌∙◌, drop}
 use Rattle.st_machine.proofs.Slots.{slots_step, slots_end}
 use Rattle.st_machine.proofs.signals.put_slots.Goals as goal
 

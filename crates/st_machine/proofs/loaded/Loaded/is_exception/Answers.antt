@@ -1,4 +1,4 @@
-use Rattle.std.proofs.Common.{sym, ◌∙◌, ap}
+use Rattle.std.proofs.Common.{◌∙◌, ap}
 use Rattle.st_code.specs.Lookup as code
 use Rattle.st_code.specs.BuiltIns.{exception_class}
 use Rattle.program_image.specs.Images.{image_program}

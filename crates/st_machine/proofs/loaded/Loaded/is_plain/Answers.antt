@@ -8,4 +8,4 @@ pub selector_number-handles-requires : goal.selector_number-handles-requires
 selector_number-handles-requires g c = handles_is
 
 pub returns : goal.returns
-returns g c = c.is_plain.ensures ∙ ap (λ u. code.is_plain (image_program u) (g.H.Heap.meaning c.args.heap.now).store c.args.selector) c.image.ensures ∙ sym (plain_same c.args.self.now (g.H.Heap.meaning c.args.heap.now).store c.args.selector)
+returns g c = c.is_plain.ensures ∙ ap (λ u. code.is_plain (image_program u) (g.H.Heap.meaning c.args.heap.now).store c.args.selector) c.image-image.ensures ∙ sym (plain_same c.args.self.now (g.H.Heap.meaning c.args.heap.now).store c.args.selector)

@@ -1,5 +1,5 @@
 use Rattle.st_machine.proofs.Finding.{default_action_is}
 use Rattle.st_machine.proofs.machine.Machine.default.Goals as goal
 
-pub selector-requires : goal.selector-requires
-selector-requires g c = default_action_is
+pub selector-selector-requires : goal.selector-selector-requires
+selector-selector-requires g c = default_action_is
