@@ -53,8 +53,9 @@ pub fn find_handler<H: Heap>(
     Search::Nobody
 }
 
-// Whether a selector of `on:do:` answers `handles:` by a built-in message.
-fn is_plain<H: Heap>(heap: &H, image: &Image, handles: u32, selector: Value) -> bool
+/// Whether a selector of `on:do:` answers `handles:` by a built-in message. `handles` is the number
+/// of that selector.
+pub fn is_plain<H: Heap>(heap: &H, image: &Image, handles: u32, selector: Value) -> bool
     requires selector { handles ≡ number_of (image_program image.now) (codes "handles:") }
     requires there { handles < length (image_names image.now).names }
     ensures { result ≡ code.is_plain (image_program image.now) (H.meaning heap.now).store selector }

@@ -18,7 +18,7 @@ use Rattle.program_image.specs.Spelled.{names_in}
 use Rattle.program_image.specs.Images.{image_program, image_names}
 use Rattle.st_rules.specs.Flat.{code_at, no_code, greatest_width}
 
-abbrev no_class : ClassRow
+abbrev pub no_class : ClassRow
 no_class = record { name = []; superclass = None; in_file = false; indexed = NoIndexes; slots = 0; class_slots = 0 }
 
 code_here : (codes : List Code) (n : ℕ) (c : Code) → n < length codes → get_or (map seen_code codes) n no_code ≡ seen_code (get_or codes n c)

@@ -1,6 +1,7 @@
 -- A step of a machine that is ready is some small steps of the flat machine.
-use Rattle.std.proofs.Common.{◌≡◌, ℕ, suc, ◌+◌, ◌-◌, ◌^◌, min, List, [], ◌∷◌, ◌++◌, slice_get, ap, sym, ◌∙◌, arith}
+use Rattle.std.proofs.Common.{◌≡◌, ℕ, suc, ◌+◌, ◌-◌, ◌^◌, min, List, [], ◌∷◌, ◌++◌, slice_get, true, nat_lt, ◌<◌, ap, sym, ◌∙◌, arith}
 use Rattle.std.proofs.lemmas.List.{append-nil}
+use Rattle.std.proofs.lemmas.Bool.Decides.{nat_tests}
 use Rattle.object_heap.specs.declared.value.Value.{Value}
 use Rattle.st_code.specs.Texts.{Text}
 use Rattle.st_contexts.specs.declared.activation.Activation.{Activation}
@@ -27,6 +28,11 @@ use Rattle.st_machine.proofs.FollowsInstructions.{next_by}
 use Rattle.st_machine.proofs.FollowsWorks.{applies, activates, enters}
 use Rattle.st_machine.proofs.FollowsInitializers.{keeps, next_opens}
 use Rattle.st_machine.proofs.FollowsSettling.{value_law, unwinding_law}
+use Rattle.st_machine.proofs.FollowsSignals.{raises, raises_new, fails}
+use Rattle.st_machine.proofs.FollowsSearches.{searches, turns, asks}
+
+room_there : (room width : ℕ) → room ≡ width → 0 < width → nat_lt 0 room ≡ true
+room_there room width e l = grind (arith, nat_tests)
 
 -- the machine with these activations and this mode
 abbrev with : Seen → List Standing → Mode → Seen
@@ -116,12 +122,24 @@ module _ (tr : Text) (ev : List Event) where
   begins s (work.SendValue v env) r = stays (beginning s (work.SendValue v env))
   begins s (work.SendTo selector v env) r = stays (beginning s (work.SendTo selector v env))
   begins s (work.SuperTo class selector v env) r = stays (beginning s (work.SuperTo class selector v env))
-  begins s (work.Fail trouble env) r = stays (beginning s (work.Fail trouble env))
-  begins s (work.Raise e env) r = stays (beginning s (work.Raise e env))
-  begins s (work.RaiseNew class env) r = stays (beginning s (work.RaiseNew class env))
-  begins s (work.Search x rest) r = stays (beginning s (work.Search x rest))
-  begins s (work.TurnBy x entry outside) r = stays (beginning s (work.TurnBy x entry outside))
-  begins s (work.Ask w n t env) r = stays (beginning s (work.Ask w n t env))
+  begins s (work.Fail trouble env) r =
+      let c = fails s.plan s.stack.next s.stack.depth s.stack.width s.variables s.passed s.steps s.deepest s.initializers s.instructions tr ev s.stack.acts s.memory r.depth r.numbers r.cells trouble env r.next r.troubles in
+      record { count = c.count; leads = c.comes }
+  begins s (work.Raise e env) r =
+      let c = raises s.plan s.stack.next s.stack.depth s.stack.width s.variables s.passed s.steps s.deepest s.initializers s.instructions tr ev s.stack.acts s.memory r.depth r.numbers r.cells e env r.next in
+      record { count = c.count; leads = c.comes }
+  begins s (work.RaiseNew class env) r =
+      let c = raises_new s.plan s.stack.next s.stack.depth s.stack.width s.variables s.passed s.steps s.deepest s.initializers s.instructions tr ev s.stack.acts s.memory r.depth r.numbers r.cells class env r.next in
+      record { count = c.count; leads = c.comes }
+  begins s (work.Search x rest) r =
+      let c = searches s.plan s.stack.next s.stack.depth s.stack.width s.variables s.passed s.steps s.deepest s.initializers s.instructions tr ev s.stack.acts s.memory r.depth r.numbers x rest (room_there s.passed.room s.stack.width r.passes r.space) r.falling in
+      record { count = c.count; leads = c.comes }
+  begins s (work.TurnBy x entry outside) r =
+      let c = turns s.plan s.stack.next s.stack.depth s.stack.width s.variables s.passed s.steps s.deepest s.initializers s.instructions tr ev s.stack.acts s.memory r.depth r.numbers x outside r.next.1 entry r.compiled (room_there s.passed.room s.stack.width r.passes r.space) in
+      record { count = c.count; leads = c.comes }
+  begins s (work.Ask w n t env) r =
+      let c = asks s.plan s.stack.next s.stack.depth s.stack.width s.variables s.passed s.steps s.deepest s.initializers s.instructions tr ev s.stack.acts s.memory r.depth r.numbers w n t env r.next.1 in
+      record { count = c.count; leads = c.comes }
   begins s (work.Visit n l v env) r = stays (beginning s (work.Visit n l v env))
 
   -- ---- the next initializer

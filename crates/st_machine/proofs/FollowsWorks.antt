@@ -22,7 +22,8 @@ use Rattle.st_machine.specs.declared.work.Work.{Work}
 use Rattle.st_machine.specs.declared.work.Work.TheVariants as work
 use Rattle.st_machine.specs.Seen.{Plan, Passed, Seen}
 use Rattle.st_machine.specs.Plans.{program_in}
-use Rattle.st_machine.specs.Opening.{block_opening, begun}
+use Rattle.st_machine.specs.Opening.{block_opening}
+use Rattle.st_machine.specs.Works.{begun}
 use Rattle.st_machine.specs.Meaning.{top_of, state_of, acts_of, env_of, target_in, behind}
 use Rattle.st_machine.proofs.Furnishing.{same_class, same_parameters}
 use Rattle.st_machine.proofs.FollowsOpening.{seen, opens}

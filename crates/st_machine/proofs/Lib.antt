@@ -1,11 +1,17 @@
 pub mod Loops
 pub mod Codes
 pub mod Links
+pub mod Finding
+pub mod Slots
+pub mod Entries
 pub mod FollowsInstructions
 pub mod Furnishing
 pub mod FollowsOpening
 pub mod FollowsWorks
 pub mod FollowsInitializers
 pub mod FollowsSettling
+pub mod FollowsSignals
+pub mod FollowsSearches
+pub mod FollowsControls
 pub mod Follows
 pub mod Telling

@@ -21,7 +21,7 @@ other_number n m l = grind (arith, nat_tests)
 same_number : (n : ℕ) → nat_eq n n ≡ true
 same_number n = grind (arith, nat_tests)
 
-same_eq : (n m : ℕ) → nat_eq n m ≡ nat_eq m n
+pub same_eq : (n m : ℕ) → nat_eq n m ≡ nat_eq m n
 same_eq n m = grind (arith, nat_tests)
 
 none_named : (acts : List Standing) → env_in acts zero ≡ []

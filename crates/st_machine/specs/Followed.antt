@@ -82,6 +82,12 @@ abbrev pub WorkBelow : ℕ → Work → Type 0
 WorkBelow n (work.Apply receiver env) = env.0 < n
 WorkBelow n (work.Activate closure env) = env.0 < n
 WorkBelow n (work.Enter code receiver env) = env.0 < n
+WorkBelow n (work.Fail trouble env) = env.0 < n
+WorkBelow n (work.Raise exception env) = env.0 < n
+WorkBelow n (work.RaiseNew class env) = env.0 < n
+WorkBelow n (work.Search x rest) = SearchBelow n x × (rest.0 < n)
+WorkBelow n (work.TurnBy x entry outside) = (SearchBelow n x × EntryBelow n entry) × (outside.0 < n)
+WorkBelow n (work.Ask w k t env) = TurnBelow n t × (env.0 < n)
 WorkBelow n _ = Unit {0}
 
 abbrev pub CanGoOn : Mode → Seen → Type 0
@@ -93,7 +99,9 @@ CanGoOn _ s = Unit {0}
 pub record Ready (s : Seen) : Type 0 where
   pub compiled : s.plan.codes ≡ compile_of (program_in s.plan)
   pub initializers : map seen_initializer s.plan.initializers ≡ (program_in s.plan).initializers
+  pub troubles : s.plan.troubles ≡ (program_in s.plan).trouble_place
   pub roomy : Roomy s.plan.codes s.stack.width
+  pub space : 0 < s.stack.width
   pub passes : s.passed.room ≡ s.stack.width
   pub depth : s.stack.depth ≡ (program_in s.plan).depth_limit
   pub cells : s.memory.limit ≡ (program_in s.plan).cell_limit

@@ -6,6 +6,10 @@ pub mod Instructions
 pub mod Opening
 pub mod Initializers
 pub mod Settling
+pub mod Signals
+pub mod Searches
+pub mod Controls
+pub mod Works
 pub mod Steps
 pub mod Running
 pub mod Meaning

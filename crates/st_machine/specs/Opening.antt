@@ -18,7 +18,7 @@ use Rattle.st_rules.specs.State.{count_true}
 use Rattle.st_rules.specs.Flat.{code_at}
 use Rattle.st_machine.specs.declared.work.Mode.TheVariants.{Run, Settle, Begin}
 use Rattle.st_machine.specs.declared.work.Work.{Work}
-use Rattle.st_machine.specs.declared.work.Work.TheVariants.{Apply, SendValue, Activate, Enter}
+use Rattle.st_machine.specs.declared.work.Work.TheVariants.{SendValue, Activate}
 use Rattle.st_machine.specs.declared.opening.Opening.{Opening}
 use Rattle.st_machine.specs.Seen.{Seen, with_stack, with_memory, with_mode}
 use Rattle.st_machine.specs.Plans.{program_in}
@@ -125,11 +125,3 @@ apply_work None receiver env = SendValue receiver env
 
 abbrev pub applied : Value → Env → Seen → Seen
 applied receiver env s = beginning (apply_work (fitting (closure_in receiver s) s) receiver env) s
-
--- ---- works; those that need the program's messages wait
-
-abbrev pub begun : Work → Seen → Seen
-begun (Apply receiver env) s = applied receiver env s
-begun (Activate closure env) s = activated closure env s
-begun (Enter code receiver env) s = entered code receiver env s
-begun _ s = s

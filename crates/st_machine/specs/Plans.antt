@@ -1,5 +1,5 @@
 -- The program of a file with its limits and code.
-use Rattle.std.specs.Prelude.{◌<◌, ◌^◌, List, length, map, All}
+use Rattle.std.specs.Prelude.{ℕ, ◌<◌, ◌^◌, List, length, map, All}
 use Rattle.st_tree.specs.declared.units.Unit.{Unit}
 use Rattle.st_code.specs.declared.instruction.Code.{Code}
 use Rattle.st_code.specs.Compiled.{seen_code}
@@ -14,8 +14,8 @@ use Rattle.st_machine.specs.Seen.{Plan}
 abbrev pub limits_of : Limits → RunLimits
 limits_of l = record { steps = l.steps; depth = l.depth; cells = l.cells }
 
-abbrev pub plan_of : List Unit → List Code → List Initializer → Limits → Plan
-plan_of units codes initializers limits = record { units = units; codes = map seen_code codes; initializers = initializers; limits = limits }
+abbrev pub plan_of : List Unit → List Code → List Initializer → (troubles : ℕ) → Limits → Plan
+plan_of units codes initializers troubles limits = record { units = units; codes = map seen_code codes; initializers = initializers; troubles = troubles; limits = limits }
 
 -- the program that the units are
 abbrev pub program_in : Plan → Program

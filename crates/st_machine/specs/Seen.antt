@@ -9,11 +9,12 @@ use Rattle.st_machine.specs.declared.loaded.Initializer.{Initializer}
 use Rattle.st_machine.specs.declared.loaded.Limits.{Limits}
 use Rattle.st_machine.specs.declared.work.Mode.{Mode}
 
--- the units of a program, the code of its bodies, its initializers in file order, and the limits of its run
+-- the units of a program, the code of its bodies, its initializers in file order, the number of the object with the first text of a trouble, and the limits of its run
 pub record Plan : Type 0 where
   pub units : List Unit
   pub codes : List Compiled
   pub initializers : List Initializer
+  pub troubles : ℕ
   pub limits : Limits
 
 -- values that a work passes on, and for how many there is room

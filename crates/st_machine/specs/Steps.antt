@@ -10,10 +10,10 @@ use Rattle.st_machine.specs.declared.work.Told.{Told}
 use Rattle.st_machine.specs.declared.work.Told.TheVariants.{Nothing}
 use Rattle.st_machine.specs.Seen.{Plan, Seen}
 use Rattle.st_machine.specs.Plans.{program_in}
-use Rattle.st_machine.specs.Opening.{begun}
 use Rattle.st_machine.specs.Instructions.{instructed}
 use Rattle.st_machine.specs.Initializers.{next_opened}
 use Rattle.st_machine.specs.Settling.{settled, settled_told}
+use Rattle.st_machine.specs.Works.{begun, begun_told}
 
 -- nothing stands, all variables are nil, and nothing is counted
 abbrev pub first_seen : Plan → Memory → Seen
@@ -40,6 +40,7 @@ advanced_by (Ended e) s = s
 
 abbrev pub told_by : Mode → Seen → Told
 told_by (Settle o) s = settled_told o s
+told_by (Begin work) s = begun_told work s
 told_by _ s = Nothing
 
 abbrev pub advanced : Seen → Seen

@@ -1,18 +1,24 @@
 // The instruction machine: code runs over a flat stack of activations and a heap, and what stands settles each outcome. A step takes no memory.
 #![tactic(auto)]
 
+mod controls;
 mod initializers;
 mod instructions;
 pub mod law;
 mod loaded;
+mod lookups;
 mod machine;
 mod opening;
 mod operands;
 mod running;
 mod scopes;
+mod searches;
 mod settling;
+mod signals;
 mod work;
+mod works;
 
+pub use controls::Control;
 pub use loaded::{Initializer, Limits, Loaded};
 pub use machine::Machine;
 pub use running::{Progress, Stats};

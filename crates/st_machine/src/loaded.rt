@@ -1,13 +1,14 @@
 // A program that is ready to run: its image, its code and the limits of its run.
-ghost use Rattle.std.specs.Prelude.{◌≡◌, ◌<◌, ◌-◌, ◌^◌, [], length, map, slice_get, IfSome};
+ghost use Rattle.std.specs.Prelude.{◌≡◌, ◌+◌, ◌<◌, ◌-◌, ◌^◌, [], length, map, slice_get, IfSome};
 ghost use Rattle.st_rules.specs.Ends.{first_class_slot};
 ghost use Rattle.st_rules.specs.Flat.{code_at, greatest_width};
 ghost use Rattle.st_code.specs.Compiled.{seen_code};
 ghost use Rattle.st_code.specs.Program.{class_at};
 ghost use Rattle.program_image.specs.Images.{image_program};
 ghost use Rattle.st_machine.specs.Plans.{plan_of, program_in, AreShort};
+ghost use Rattle.st_machine.specs.Signals.{text_in, slots_in};
 
-use object_heap::Value;
+use object_heap::{Trouble, Value};
 use program_image::Image;
 use st_code::{Code, Instruction};
 use std::marker::Model;
@@ -37,6 +38,7 @@ pub struct Loaded {
     image: Image,
     codes: Vec<Code>,
     initializers: Vec<Initializer>,
+    troubles: u32,
     limits: Limits,
 }
 
@@ -49,30 +51,56 @@ impl Model for Loaded {
 
     ghost Value = { Plan };
 
+    ghost use Rattle.std.specs.Prelude.{◌+◌, ◌<◌, ◌^◌};
     ghost use Rattle.st_machine.specs.Plans.{plan_of, AreShort};
 
-    ghost view = { λ l. plan_of l.image l.codes.items l.initializers.items l.limits };
+    ghost view = { λ l. plan_of l.image l.codes.items l.initializers.items l.troubles l.limits };
 
-    ghost invariant = { λ l. AreShort l.codes.items };
+    ghost invariant = { λ l. AreShort l.codes.items × (l.troubles + 24 < 2 ^ 32) };
 }
 
 impl Loaded {
-    /// A program of this image, whose codes have fewer than 2^32 variables each.
+    /// A program of this image, whose codes have fewer than 2^32 variables each. The texts of
+    /// troubles are the objects from `troubles` on.
     pub fn new(
         image: Image,
         codes: Vec<Code>,
         initializers: Vec<Initializer>,
+        troubles: u32,
         limits: Limits,
     ) -> Loaded
-        requires { AreShort codes.items }
-        ensures { result ≡ plan_of image codes.items initializers.items limits }
+        requires short { AreShort codes.items }
+        requires numbered { troubles + 24 < 2 ^ 32 }
+        ensures { result ≡ plan_of image codes.items initializers.items troubles limits }
     {
         Loaded {
             image,
             codes,
             initializers,
+            troubles,
             limits,
         }
+    }
+
+    /// The image of the program.
+    pub fn image(&self) -> &Image
+        ensures { result.now ≡ self.now.units }
+    {
+        &self.image
+    }
+
+    /// The text of a trouble.
+    pub fn trouble_text(&self, trouble: Trouble) -> Value
+        ensures { result ≡ text_in self.now trouble }
+    {
+        Value::Object(self.troubles + trouble.place())
+    }
+
+    /// How many slots the instances of a class have.
+    pub fn slots(&self, class: u32) -> u32
+        ensures { result ≡ slots_in self.now class }
+    {
+        slots_of(&self.image, class)
     }
 
     /// How many steps a run may make.
@@ -178,6 +206,16 @@ fn class_slots(image: &Image, class: u32) -> u32
 {
     if class < image.class_count() {
         return image.class(class).class_slots;
+    }
+    0
+}
+
+// How many slots the instances of a class have, and 0 where there is no such class.
+fn slots_of(image: &Image, class: u32) -> u32
+    ensures { result ≡ (class_at (image_program image.now) class).slots }
+{
+    if class < image.class_count() {
+        return image.class(class).slots;
     }
     0
 }

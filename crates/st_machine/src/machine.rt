@@ -77,8 +77,7 @@ impl<H: Heap> Machine<H> {
         self.mode
     }
 
-    /// One small step, and the events that it tells. A work that begins something else than an
-    /// application is left as it is.
+    /// One small step, and the events that it tells. Sends and loops are left as they are.
     pub fn advance(&mut self) -> Told
         ensures stepped { self.new ≡ advanced self.old }
         ensures told { result ≡ advance_told self.old }
@@ -89,10 +88,7 @@ impl<H: Heap> Machine<H> {
                 Told::Nothing
             }
             Mode::Settle(outcome) => self.settle(outcome),
-            Mode::Begin(work) => {
-                self.begin(work);
-                Told::Nothing
-            }
+            Mode::Begin(work) => self.begin(work),
             Mode::Next => {
                 self.open_next();
                 Told::Nothing

@@ -1,6 +1,6 @@
 // How bodies come to stand, with their variables.
 ghost use Rattle.std.specs.Prelude.{◌≡◌};
-ghost use Rattle.st_machine.specs.Opening.{frame_for, own_furnished, filled, furnished, opened, block_opening, activated, entered, closure_in, fitting, applied, begun};
+ghost use Rattle.st_machine.specs.Opening.{frame_for, own_furnished, filled, furnished, opened, block_opening, activated, entered, closure_in, fitting, applied};
 
 use crate::machine::Machine;
 use crate::operands::push_own;
@@ -113,8 +113,8 @@ impl<H: Heap> Machine<H> {
         }
     }
 
-    // A block is activated, which costs a step.
-    fn activate(&mut self, closure: Closure, env: Env)
+    /// A block is activated, which costs a step.
+    pub(crate) fn activate(&mut self, closure: Closure, env: Env)
         ensures { self.new ≡ activated closure env self.old }
     {
         if self.step() {
@@ -139,8 +139,8 @@ impl<H: Heap> Machine<H> {
         });
     }
 
-    // What a value keeps that is a block.
-    fn closure(&self, receiver: Value) -> Option<Closure>
+    /// What a value keeps that is a block.
+    pub(crate) fn closure(&self, receiver: Value) -> Option<Closure>
         ensures { result ≡ closure_in receiver self.now }
     {
         match receiver {
@@ -149,8 +149,8 @@ impl<H: Heap> Machine<H> {
         }
     }
 
-    // The closure, where it takes as many values as are passed.
-    fn fit(&self, closure: Option<Closure>) -> Option<Closure>
+    /// The closure, where it takes as many values as are passed.
+    pub(crate) fn fit(&self, closure: Option<Closure>) -> Option<Closure>
         ensures { result ≡ fitting closure self.now }
     {
         match closure {
@@ -165,8 +165,8 @@ impl<H: Heap> Machine<H> {
         }
     }
 
-    // A block that takes as many values is activated, and anything else gets a message.
-    fn apply(&mut self, receiver: Value, env: Env)
+    /// A block that takes as many values is activated, and anything else gets a message.
+    pub(crate) fn apply(&mut self, receiver: Value, env: Env)
         ensures { self.new ≡ applied receiver env self.old }
     {
         match self.fit(self.closure(receiver)) {
@@ -176,22 +176,6 @@ impl<H: Heap> Machine<H> {
             None => {
                 self.mode = Mode::Begin(Work::SendValue { receiver, env });
             }
-        }
-    }
-
-    /// Begins an application or an activation. Other works are left as they are.
-    pub(crate) fn begin(&mut self, work: Work)
-        ensures { self.new ≡ begun work self.old }
-    {
-        match work {
-            Work::Apply { receiver, env } => self.apply(receiver, env),
-            Work::Activate { closure, env } => self.activate(closure, env),
-            Work::Enter {
-                code,
-                receiver,
-                env,
-            } => self.enter(code, receiver, env),
-            _ => (),
         }
     }
 }

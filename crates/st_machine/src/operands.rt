@@ -2,6 +2,7 @@
 ghost use Rattle.std.specs.Prelude.{◌≡◌, ◌+◌, ◌≤◌, ◌<◌, ◌^◌, [], ◌∷◌, length, reverse, min, get_or, IfOk, vec_capacity};
 ghost use Rattle.st_machine.specs.Operands.{moved_on, delivered, taken, own_pushed};
 ghost use Rattle.st_machine.specs.Seen.{passing};
+ghost use Rattle.st_machine.specs.Searches.{one_passed};
 
 use object_heap::Value;
 use st_base::OutOfMemory;
@@ -110,6 +111,19 @@ impl Passed {
         ensures { self.new ≡ passing [] self.old }
     {
         self.values.clear();
+    }
+
+    /// Passes on one value, where there is room.
+    pub fn set_one(&mut self, value: Value)
+        ensures { self.new ≡ one_passed value self.old }
+    {
+        self.values.clear();
+        if self.room > 0 {
+            match self.values.push(value) {
+                Ok(()) => (),
+                Err(_) => unreachable!(),
+            }
+        }
     }
 
     /// Takes so many operands of the innermost activation, in their order.

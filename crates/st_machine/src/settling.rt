@@ -106,8 +106,8 @@ fn turn_outcome(turn: Turn, contexts: &Contexts, value: Value) -> Outcome
     }
 }
 
-// The search of a turn with this number.
-fn search_of(who: u64, turn: Turn, purpose: Purpose) -> SearchState
+/// The search of a turn with this number.
+pub(crate) fn search_of(who: u64, turn: Turn, purpose: Purpose) -> SearchState
     ensures { result ≡ search_of who turn purpose }
 {
     SearchState {
@@ -227,8 +227,8 @@ impl<H: Heap> Machine<H> {
         end_told(number, outcome)
     }
 
-    // A search begins in the whole of its environment.
-    fn search(&mut self, search: SearchState)
+    /// A search begins in the whole of its environment.
+    pub(crate) fn search(&mut self, search: SearchState)
         ensures { self.new ≡ searching search self.old }
     {
         self.mode = Mode::Begin(Work::Search {

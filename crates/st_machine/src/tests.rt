@@ -183,7 +183,7 @@ fn loaded(alloc: Global, row: &Row, count: usize, limits: Limits) -> Result<Load
     };
     let initializers = vec![in alloc; initializer; count]?;
     let image = build(alloc, Definition { units })?;
-    Ok(Loaded::new(image, codes(alloc, row)?, initializers, limits))
+    Ok(Loaded::new(image, codes(alloc, row)?, initializers, 0, limits))
 }
 
 // What a send of `value` or `ensure:` begins.
