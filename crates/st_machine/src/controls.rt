@@ -34,7 +34,7 @@ impl<H: Heap> Machine<H> {
         Told::Nothing
     }
 
-    fn go(&mut self, target: Target, value: Value) -> Told
+    fn unwind_next(&mut self, target: Target, value: Value) -> Told
         ensures gone { self.new ≡ settling (Outcome.Go target value) self.old }
         ensures told { result ≡ Told.Nothing }
     {
@@ -76,7 +76,7 @@ impl<H: Heap> Machine<H> {
             signal: turn.signal,
             exception: other,
         };
-        self.go(target, Value::Object(other))
+        self.unwind_next(target, Value::Object(other))
     }
 
     fn resignal_object(&mut self, turn: Turn, other: u32, env: Env) -> Told
@@ -113,9 +113,9 @@ impl<H: Heap> Machine<H> {
         ensures told { result ≡ control_told_by control number }
     {
         match control {
-            Control::Return => self.go(Target::Protected(entry), value),
-            Control::Retry => self.go(Target::Retry(entry), Value::Nil),
-            Control::RetryUsing => self.go(Target::RetryWith(entry), value),
+            Control::Return => self.unwind_next(Target::Protected(entry), value),
+            Control::Retry => self.unwind_next(Target::Retry(entry), Value::Nil),
+            Control::RetryUsing => self.unwind_next(Target::RetryWith(entry), value),
             Control::Resume => self.ask_next(Wait::Resume { value }, number, turn, env),
             Control::Pass => self.search_outside(number, turn, Purpose::Pass { turn }),
             Control::Outer => self.ask_next(Wait::Outer, number, turn, env),
