@@ -298,6 +298,7 @@ ordered_once : (p : Program) (s : Store) (m : OfOrdered) (r : Value) (args : Lis
 unfolding collection_action
 ordered_once p s OfOrdered.Add r args = changed_once p s CollectionRow.Add r args (λ n. refl)
 ordered_once p s OfOrdered.AddFirst r args = changed_once p s CollectionRow.AddFirst r args (λ n. refl)
+ordered_once p s OfOrdered.AddAll r args = changed_once p s CollectionRow.AddAll r args (λ n. either (is_collection s (first args)) _ _ refl refl)
 ordered_once p s OfOrdered.RemoveFirst r args = changed_once p s CollectionRow.RemoveFirst r args (λ n. either (nat_eq (size_of p s (Object n)) 0) _ _ refl refl)
 ordered_once p s OfOrdered.RemoveLast r args = changed_once p s CollectionRow.RemoveLast r args (λ n. either (nat_eq (size_of p s (Object n)) 0) _ _ refl refl)
 ordered_once p s OfOrdered.AddBeforeIndex r args = changed_once p s CollectionRow.AddBeforeIndex r args (λ n. indexed_once (second args) _ _ (λ i. refl))

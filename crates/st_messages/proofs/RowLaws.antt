@@ -101,6 +101,7 @@ pub ordered_same : (p : Program) (s : Store) (m : OfOrdered) (r : Value) (args :
 unfolding row_action
 ordered_same p s OfOrdered.Add r args = refl
 ordered_same p s OfOrdered.AddFirst r args = refl
+ordered_same p s OfOrdered.AddAll r args = refl
 ordered_same p s OfOrdered.RemoveFirst r args = refl
 ordered_same p s OfOrdered.RemoveLast r args = refl
 ordered_same p s OfOrdered.AddBeforeIndex r args = refl

@@ -117,6 +117,7 @@ making_of OfMaker.Arrow = OfMaking.Arrow
 abbrev pub ordered_row : OfOrdered → CollectionRow
 ordered_row OfOrdered.Add = CollectionRow.Add
 ordered_row OfOrdered.AddFirst = CollectionRow.AddFirst
+ordered_row OfOrdered.AddAll = CollectionRow.AddAll
 ordered_row OfOrdered.RemoveFirst = CollectionRow.RemoveFirst
 ordered_row OfOrdered.RemoveLast = CollectionRow.RemoveLast
 ordered_row OfOrdered.AddBeforeIndex = CollectionRow.AddBeforeIndex
@@ -148,7 +149,6 @@ table_row (MessageRow.Slot slot) = Slots slot
 -- the rows that are here
 abbrev pub at_once : Row → Option Row
 at_once (Objects ObjectMessage.Copy) = None
-at_once (Collections CollectionRow.AddAll) = None
 at_once (Numbers m) = None
 at_once (Loops m) = None
 at_once row = Some row

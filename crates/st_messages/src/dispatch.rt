@@ -143,7 +143,7 @@ fn found_message<H: Heap, P: ProgramFacts>(
 }
 
 /// Does what a send does at once (section 3.3). None, with nothing changed, where it finds a
-/// message that isn't done here: of numbers, a loop, `copy` or `addAll:`.
+/// message that isn't done here: of numbers, a loop or `copy`.
 pub fn send_message<H: Heap, P: ProgramFacts>(
     heap: &mut H,
     program: &P,

@@ -19,7 +19,7 @@ fn rows() -> &'static [Option<MessageRow>]
 }
 
 /// What the message with this number does. None where that isn't done here: for messages to
-/// numbers, loops, `copy` and `addAll:`.
+/// numbers, loops and `copy`.
 pub fn row_of(message: u16) -> Option<MessageRow>
     ensures { option_map table_row result ≡ at_once (numbered_row message) }
 {
@@ -244,7 +244,7 @@ static ROWS: [Option<MessageRow>; 416] = [
     Some(MessageRow::Ordered(OfOrdered::Add)),
     Some(MessageRow::Ordered(OfOrdered::Add)),
     Some(MessageRow::Ordered(OfOrdered::AddFirst)),
-    None,
+    Some(MessageRow::Ordered(OfOrdered::AddAll)),
     Some(MessageRow::Ordered(OfOrdered::RemoveFirst)),
     Some(MessageRow::Ordered(OfOrdered::RemoveLast)),
     Some(MessageRow::Ordered(OfOrdered::AddBeforeIndex)),
