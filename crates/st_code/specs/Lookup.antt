@@ -94,7 +94,7 @@ class_level _ = level OfInstance undefined_object_class
 unfoldable pub super_lookup : Program → Value → ℕ → Option Found
 super_lookup p class selector = found_in p (drop 1 (walk p (class_level class))) selector
 
-abbrev class_value : Level → Value
+abbrev pub class_value : Level → Value
 class_value l = elim l.side [ OfInstance ↦ Class l.class | OfClass ↦ Meta l.class | OfMeta ↦ Class metaclass_class ]
 
 -- the answer of `class`
@@ -108,7 +108,7 @@ class_text p (Class class) = (class_at p class).name
 class_text p (Meta class) = (class_at p class).name ++ codes " class"
 class_text p _ = []
 
-abbrev class_number : Store → Value → Option ℕ
+abbrev pub class_number : Store → Value → Option ℕ
 class_number s (Object number) = Some (object_at number s).class
 class_number s _ = None
 
@@ -119,7 +119,7 @@ is_exception p s _ = false
 
 -- ---- selectors of `on:do:`
 
-abbrev is_built_in : Option Found → Bool
+abbrev pub is_built_in : Option Found → Bool
 is_built_in (Some (BuiltIn row)) = true
 is_built_in _ = false
 
@@ -127,11 +127,11 @@ is_built_in _ = false
 unfoldable pub is_plain : Program → Store → Value → Bool
 is_plain p s selector = is_built_in (lookup p (level_of s selector) (number_of p (codes "handles:")))
 
-abbrev fits_class : Program → ℕ → Value → Bool
+abbrev pub fits_class : Program → ℕ → Value → Bool
 fits_class p class (Class ancestor) = inherits p class ancestor
 fits_class p class _ = false
 
-abbrev fits_some : Program → ℕ → List Value → Bool
+abbrev pub fits_some : Program → ℕ → List Value → Bool
 fits_some p class [] = false
 fits_some p class (v ∷ vs) = elim (fits_class p class v) [ true ↦ true | false ↦ fits_some p class vs ]
 

@@ -113,7 +113,7 @@ class_at p class = get_or p.classes class no_class
 unfoldable pub name_at : Program → ℕ → Text
 name_at p number = get_or p.names number []
 
-abbrev number_from : List Text → Text → ℕ → ℕ
+abbrev pub number_from : List Text → Text → ℕ → ℕ
 number_from [] text n = n
 number_from (t ∷ names) text n = elim (same_text t text) [ true ↦ n | false ↦ number_from names text (n + 1) ]
 

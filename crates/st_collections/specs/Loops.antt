@@ -15,64 +15,64 @@ use Rattle.st_collections.specs.SequenceRows.{with_elements, without_element}
 
 -- ---- where a loop is, and what it has
 
-abbrev place : LoopState → ℕ
+abbrev pub place : LoopState → ℕ
 place l = natural_of l.index
 
-abbrev at_index : ℤ → LoopState → LoopState
+abbrev pub at_index : ℤ → LoopState → LoopState
 at_index i l = record l { index = i; aside = false; visited = Nil }
 
-abbrev made_to : Value → LoopState → LoopState
+abbrev pub made_to : Value → LoopState → LoopState
 made_to v l = record l { made = v }
 
 -- the loop at its next index
-abbrev further : LoopState → LoopState
+abbrev pub further : LoopState → LoopState
 further l = at_index (l.index +ℤ pos 1) l
 
 -- the loop while it waits for something else than a visit, and where none matched
-abbrev beside : LoopState → LoopState
+abbrev pub beside : LoopState → LoopState
 beside l = record l { aside = true }
 
-abbrev past_all : LoopState → LoopState
+abbrev pub past_all : LoopState → LoopState
 past_all l = record l { index = pos 0; aside = true; visited = Nil }
 
 -- the loop with the element that it visits
-abbrev visiting : Value → LoopState → LoopState
+abbrev pub visiting : Value → LoopState → LoopState
 visiting v l = record l { visited = v }
 
 -- an element stands at the loop's index
 unfoldable pub is_within : Program → Store → LoopState → Bool
 is_within p s l = nat_le 1 (place l) && nat_le (place l) (size_of p s l.receiver)
 
-abbrev here : Program → Store → LoopState → Value
+abbrev pub here : Program → Store → LoopState → Value
 here p s l = element p s l.receiver (place l)
 
 -- the visit where an element stands at the index, else the end
-abbrev within : Program → Store → LoopState → Visit → Visit → Visit
+abbrev pub within : Program → Store → LoopState → Visit → Visit → Visit
 within p s l visit last = if is_within p s l then visit else last
 
 -- ---- `to:do:`
 
 -- the step, the stop and the block
-abbrev step_of : LoopMessage → List Value → ℤ
+abbrev pub step_of : LoopMessage → List Value → ℤ
 step_of LoopMessage.ToByDo args = integer_of (second args)
 step_of m args = pos 1
 
-abbrev block_of : LoopMessage → List Value → Value
+abbrev pub block_of : LoopMessage → List Value → Value
 block_of LoopMessage.ToByDo args = third args
 block_of m args = second args
 
-abbrev is_past : ℤ → ℤ → ℤ → Bool
+abbrev pub is_past : ℤ → ℤ → ℤ → Bool
 is_past (pos by) value stop = int_lt stop value
 is_past (negsuc by) value stop = int_lt value stop
 
-abbrev count_visit : LoopState → Visit
+abbrev pub count_visit : LoopState → Visit
 count_visit l =
     if is_past (step_of l.message l.arguments) l.index (integer_of (first l.arguments)) then Finishes l.receiver
     else Applies l (block_of l.message l.arguments) (Integer l.index ∷ [])
 
 -- ---- `do:separatedBy:`
 
-abbrev separated_visit : Program → Store → LoopState → Visit
+abbrev pub separated_visit : Program → Store → LoopState → Visit
 separated_visit p s l =
     if nat_le 2 (place l) && not l.aside then Applies (beside l) (second l.arguments) []
     else Applies (record l { aside = false }) (first l.arguments) (here p s l ∷ [])
@@ -80,29 +80,29 @@ separated_visit p s l =
 -- ---- collections made by a loop
 
 -- an element at the end of the collection made, with the cells of its growth, then the rest
-abbrev appended : Store → Value → List Value → (Store → Visit) → Visit
+abbrev pub appended : Store → Value → List Value → (Store → Visit) → Visit
 appended s (Object number) slots rest = let g = with_elements s number slots in Charges g.cells g.store (rest g.store)
 appended s made slots rest = rest s
 
-abbrev added : Store → LoopState → Value → (Store → Visit) → Visit
+abbrev pub added : Store → LoopState → Value → (Store → Visit) → Visit
 added s l v rest = appended s l.made (slots_of s l.made ++ v ∷ []) rest
 
 -- the items of the collection made as a new object of this class
-abbrev turned_into : ℕ → Store → LoopState → Visit
+abbrev pub turned_into : ℕ → Store → LoopState → Visit
 turned_into class s l =
     let items = slots_of s l.made in
     if nat_eq class string_class
     then Charges (object_charge 0 (length items)) (with_new string_class [] (map byte_of items) s) (Finishes (next_object s))
     else Charges (1 + length items) (with_new class items [] s) (Finishes (next_object s))
 
-abbrev keeps_made : Store → Value → Bool
+abbrev pub keeps_made : Store → Value → Bool
 keeps_made s r = is_a s ordered_collection_class r || is_a s set_class r || is_a s dictionary_class r
 
-abbrev collected : Store → LoopState → Visit
+abbrev pub collected : Store → LoopState → Visit
 collected s l = if keeps_made s l.receiver then Finishes l.made else turned_into array_class s l
 
 -- what `select:` and `reject:` answer: a String, a Set, the collection made, or an Array
-abbrev selected : Store → LoopState → Visit
+abbrev pub selected : Store → LoopState → Visit
 selected s l =
     if nat_eq (species s l.receiver) string_class then turned_into string_class s l else
     (if is_a s set_class l.receiver then turned_into set_class s l else
@@ -110,26 +110,26 @@ selected s l =
 
 -- ---- Dictionaries: keys and values in turn
 
-abbrev with_pair : Store → Value → Value → Value → Value → Visit
+abbrev pub with_pair : Store → Value → Value → Value → Value → Visit
 with_pair s r k v answer = appended s r (slots_of s r ++ k ∷ v ∷ []) (λ s'. Finishes answer)
 
-abbrev value_at : Store → LoopState → Value
+abbrev pub value_at : Store → LoopState → Value
 value_at s l = get_or (slots_of s l.receiver) (2 * place l - 1) Nil
 
-abbrev set_value : Store → LoopState → Value → Store
+abbrev pub set_value : Store → LoopState → Value → Store
 set_value s l v = elim l.receiver [ Object n ↦ with_slot n (2 * place l - 1) v s | _ ↦ s ]
 
-abbrev without : Store → Value → ℕ → Store
+abbrev pub without : Store → Value → ℕ → Store
 without s (Object n) i = without_element s n i
 without s v i = s
 
 -- ---- the visit at the loop's index, or the end
 
-abbrev key_or_index : Store → LoopState → Value
+abbrev pub key_or_index : Store → LoopState → Value
 key_or_index s l = if is_a s dictionary_class l.receiver then key s l.receiver (place l) else Integer l.index
 
 -- `=` of Arrays and OrderedCollections: the argument no longer has the element
-abbrev compared : Store → LoopState → Visit
+abbrev pub compared : Store → LoopState → Visit
 compared s l =
     if nat_le (place l) (length (slots_of s (first l.arguments)))
     then Compares l (get_or (slots_of s l.receiver) (place l - 1) Nil) (get_or (slots_of s (first l.arguments)) (place l - 1) Nil)
@@ -171,38 +171,38 @@ visit_at p s LoopMessage.EqualElements l = within p s l (compared s l) (Finishes
 visit_at p s LoopMessage.NotEqual l = Compares l l.receiver (first l.arguments)
 
 -- the visit of a loop where it is
-abbrev visit : Program → Store → LoopState → Visit
+abbrev pub visit : Program → Store → LoopState → Visit
 visit p s l = visit_at p s l.message l
 
 -- ---- what a value brings
 
 -- the argument of a while loop, if there is one, else the receiver again
-abbrev while_argument : LoopState → List Value → Visit
+abbrev pub while_argument : LoopState → List Value → Visit
 while_argument l [] = Applies l l.receiver []
 while_argument l (block ∷ args) = Applies (beside l) block []
 
-abbrev while_given : LoopState → Bool → Visit
+abbrev pub while_given : LoopState → Bool → Visit
 while_given l goes_on = if l.aside then Applies (record l { aside = false }) l.receiver [] else (if goes_on then while_argument l l.arguments else Finishes Nil)
 
 -- where none matched, the value of the block or of the signal is the loop's
-abbrev answered : LoopState → Value → Visit → Visit
+abbrev pub answered : LoopState → Value → Visit → Visit
 answered l v visit = if l.aside then Finishes v else visit
 
 -- a match of `=` counts where an element still stands at the index
-abbrev matched : Program → Store → LoopState → Value → Visit → Visit
+abbrev pub matched : Program → Store → LoopState → Value → Visit → Visit
 matched p s l v found = if is_true v && is_within p s l then found else visit p s (further l)
 
-abbrev removed : Program → Store → LoopState → Visit
+abbrev pub removed : Program → Store → LoopState → Visit
 removed p s l = Charges 0 (without s l.receiver (place l - 1)) (Finishes (here p s l))
 
-abbrev pair_removed : Store → LoopState → Visit
+abbrev pub pair_removed : Store → LoopState → Visit
 pair_removed s l = Charges 0 (without (without s l.receiver (2 * place l - 1)) l.receiver (2 * place l - 2)) (Finishes (value_at s l))
 
-abbrev pair_or_answer : Store → LoopState → Value → Visit
+abbrev pub pair_or_answer : Store → LoopState → Value → Visit
 pair_or_answer s l v = if l.aside then with_pair s l.receiver (first l.arguments) v v else Finishes v
 
 -- the lesser of the index below and the size now
-abbrev downwards : Program → Store → LoopState → LoopState
+abbrev pub downwards : Program → Store → LoopState → LoopState
 downwards p s l = at_index (pos (min (place l - 1) (size_of p s l.receiver))) l
 
 unfoldable pub given_at : Program → Store → LoopMessage → LoopState → Value → Visit
@@ -243,14 +243,14 @@ next_visit p s l v = given_at p s l.message l v
 
 -- ---- the beginning of a loop
 
-abbrev begun : LoopMessage → Value → List Value → ℤ → Value → LoopState
+abbrev pub begun : LoopMessage → Value → List Value → ℤ → Value → LoopState
 begun m r args index made = record { message = m; receiver = r; arguments = args; index = index; made = made; visited = Nil; aside = false }
 
 -- a loop that makes a collection is charged for it once it stands
-abbrev with_made : Program → Store → LoopState → Visit
+abbrev pub with_made : Program → Store → LoopState → Visit
 with_made p s l = let s' = with_new ordered_collection_class [] [] s in Charges 1 s' (visit p s' (made_to (next_object s) l))
 
-abbrev same_kind : Store → LoopState → Bool
+abbrev pub same_kind : Store → LoopState → Bool
 same_kind s l = elim l.receiver [
   | Object n ↦ is_a s (object_at n s).class (first l.arguments) && nat_eq (length (object_at n s).slots) (length (slots_of s (first l.arguments)))
   | _ ↦ false
@@ -267,11 +267,11 @@ first_of_message p s m l = visit p s l
 unfoldable pub first_visit : Program → Store → LoopState → Visit
 first_visit p s l = first_of_message p s l.message l
 
-abbrev with_stop : Value → Action → Action
+abbrev pub with_stop : Value → Action → Action
 with_stop (Integer n) act = act
 with_stop v act = Fails NumberExpected
 
-abbrev with_step : Value → Action → Action
+abbrev pub with_step : Value → Action → Action
 with_step (Integer n) act = if nat_eq (natural_of n) 0 && int_le (pos 0) n then Fails StepIsZero else act
 with_step v act = Fails NumberExpected
 
