@@ -1,7 +1,7 @@
 -- What some messages to numbers answer, computed: the edges of the range, signs, ties, Fractions that stand in lowest terms and one that doesn't.
-use Rattle.std.proofs.Common.{◌≡◌, ℕ, pos, negsuc, List, [], ◌∷◌, None, false, refl}
+use Rattle.std.proofs.Common.{◌≡◌, pos, negsuc, List, [], ◌∷◌, None, false, refl}
 use Rattle.object_heap.specs.declared.value.Value.{Value}
-use Rattle.object_heap.specs.declared.value.Value.TheVariants.{Nil, True, False, Integer, Object}
+use Rattle.object_heap.specs.declared.value.Value.TheVariants.{Nil, False, Integer, Object}
 use Rattle.object_heap.specs.declared.trouble.Trouble.TheVariants.{NumberExpected, StepIsZero, BadRadix}
 use Rattle.object_heap.specs.Store.{Store, Object as HeapObject}
 use Rattle.st_code.specs.BuiltIns.{fraction_class, interval_class, string_class}

@@ -1,5 +1,5 @@
 -- What a message to a number does at once gives values that are there: the receiver, the argument, an Integer, a truth value, or a new object.
-use Rattle.std.proofs.Common.{ℕ, ◌/◌, ◌*◌, ◌==◌, ℤ, pos, negsuc, neg_ℤ, ◌+ℤ◌, ◌-ℤ◌, ◌*ℤ◌, int_div, int_rem, unsigned_abs, nat_abs, nat_eq, nat_le, length, List, [], ◌∷◌, Option, Some, None, Bool, true, false, not, ◌&&◌, if◌then◌else◌}
+use Rattle.std.proofs.Common.{ℕ, ◌/◌, ◌*◌, ◌==◌, ℤ, pos, negsuc, neg_ℤ, ◌+ℤ◌, ◌-ℤ◌, ◌*ℤ◌, int_div, int_rem, unsigned_abs, nat_abs, nat_eq, nat_le, nat_lt, ◌^◌, length, List, [], ◌∷◌, Option, Some, None, Bool, true, false, not, ◌&&◌, if◌then◌else◌}
 use Rattle.std.specs.Int.{is_negative}
 use Rattle.object_heap.specs.declared.value.Value.{Value}
 use Rattle.object_heap.specs.declared.value.Value.TheVariants.{Nil, True, False, Integer, Character, Symbol, Class, Meta, Transcript, Object}
@@ -17,8 +17,9 @@ use Rattle.st_code.specs.Program.{Program}
 use Rattle.st_code.specs.BuiltIns.{interval_class, fraction_class}
 use Rattle.st_code.specs.Messages.{NumberMessage}
 use Rattle.st_collections.specs.Actions.{Action, Fails, PassesIntegers, first, second, makes_slots, makes_string}
+use Rattle.st_collections.specs.IntervalRows.{with_integer, interval, interval_by}
 use Rattle.st_collections.specs.Kinds.{interval_size, print_text, integer_of}
-use Rattle.st_rules.specs.NumberRows.{as_number, argument_of, dividend_of, troubled, numeric_action, of_number, arithmetic_action, with_integer, radix_text, in_radix, interval, interval_by, Asked, asked, number_at, number_action}
+use Rattle.st_rules.specs.NumberRows.{as_number, argument_of, dividend_of, troubled, numeric_action, of_number, arithmetic_action, radix_text, in_radix, Asked, asked, number_at, number_action}
 use Rattle.st_rules.specs.Objects.{Has, AllHave, ObjectsHave}
 use Rattle.st_rules.proofs.ValuesHave.{first_has}
 use Rattle.st_rules.proofs.RowsHave.{Gets, if_has, slots_made, string_made, no_trouble}
@@ -192,7 +193,7 @@ module _ (p : Program) (s : Store) (h : ObjectsHave (length s.objects) s.objects
   radix_has r (negsuc radix) = record { gets = tt }
 
   interval_has : (start stop by : ℤ) → Gets p s h (interval s start stop by)
-  interval_has start stop by = if_has p s h (in_range (pos (interval_size start stop by))) (makes_slots interval_class (Integer start ∷ Integer stop ∷ Integer by ∷ []) s) PassesIntegers (slots_made p s h interval_class (Integer start ∷ Integer stop ∷ Integer by ∷ []) (tt, (tt, (tt, tt)))) record { gets = tt }
+  interval_has start stop by = if_has p s h (nat_lt (interval_size start stop by) (2 ^ 127)) (makes_slots interval_class (Integer start ∷ Integer stop ∷ Integer by ∷ []) s) PassesIntegers (slots_made p s h interval_class (Integer start ∷ Integer stop ∷ Integer by ∷ []) (tt, (tt, (tt, tt)))) record { gets = tt }
 
   by_has : (start stop by : ℤ) → Gets p s h (interval_by s start stop by)
   by_has start stop by = if_has p s h (nat_eq (nat_abs by) 0) (Fails StepIsZero) (interval s start stop by) (no_trouble p s h StepIsZero) (interval_has start stop by)

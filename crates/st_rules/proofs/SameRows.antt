@@ -1,5 +1,5 @@
 -- What a message does at once reads neither scopes nor closures, and leaves them as they are: only the messages of Blocks do.
-use Rattle.std.proofs.Common.{◌≡◌, ℕ, zero, suc, ◌+◌, ℤ, pos, negsuc, nat_abs, nat_eq, nat_le, ◌&&◌, if◌then◌else◌, List, [], ◌∷◌, Option, Some, None, Bool, true, false, refl, ap, arith}
+use Rattle.std.proofs.Common.{◌≡◌, ℕ, zero, suc, ◌+◌, ℤ, pos, negsuc, nat_abs, nat_eq, nat_le, nat_lt, ◌^◌, ◌&&◌, if◌then◌else◌, List, [], ◌∷◌, Option, Some, None, Bool, true, false, refl, ap, arith}
 use Rattle.object_heap.specs.declared.value.Value.{Value}
 use Rattle.object_heap.specs.declared.value.Value.TheVariants.{Nil, Integer, Symbol, Object}
 use Rattle.object_heap.specs.declared.value.Closure.{Closure}
@@ -11,17 +11,17 @@ use Rattle.st_code.specs.BuiltIns.{string_class, byte_array_class}
 use Rattle.st_code.specs.Lookup.{level_of, class_of, is_exception, is_plain, fits}
 use Rattle.st_code.specs.Messages.{Control, ObjectMessage, ClassMessage, NumberMessage, CharacterMessage, StringMessage, SequenceMessage, ExceptionMessage, LoopMessage, BooleanMessage, CollectionMessage, TranscriptMessage}
 use Rattle.st_collections.specs.Actions.{Activates, Enters, Gives, first, second, Action, Changes, Makes, Fails, Raises, with_new, makes_slots, makes_bytes, makes_string, makes_blank}
+use Rattle.st_collections.specs.IntervalRows.{with_integer, interval}
 use Rattle.st_collections.specs.Kinds.{interval_size, integer_of, is_a, bytes_of, slots_of, slot_of, size_of, element, some_elements, elements, is_sequence, is_collection, species, print_text, exception_text}
 use Rattle.st_collections.specs.ObjectRows.{indexed, index_in, byte_put, object_action, class_action, boolean_action}
 use Rattle.st_collections.specs.TextRows.{with_character, character_action, string_action, transcript_action}
 use Rattle.st_collections.specs.SequenceRows.{makes_sequence, with_elements, without_element, sequence_action, collection_action}
 use Rattle.st_collections.specs.Loops.{loop_action}
 use Rattle.st_numbers.specs.Answers.{answer_of}
-use Rattle.st_numbers.specs.Numbers.{in_range}
 use Rattle.st_numbers.specs.declared.message.Number.{Number}
 use Rattle.st_numbers.specs.declared.message.NumberAnswer.{NumberAnswer}
 use Rattle.st_numbers.specs.declared.message.NumberMessage.{NumberMessage as Arithmetic}
-use Rattle.st_rules.specs.NumberRows.{as_number, argument_of, dividend_of, numeric_action, of_number, arithmetic_action, with_integer, in_radix, interval, Asked, asked, number_at, number_action}
+use Rattle.st_rules.specs.NumberRows.{as_number, argument_of, dividend_of, numeric_action, of_number, arithmetic_action, in_radix, Asked, asked, number_at, number_action}
 use Rattle.st_rules.specs.ExceptionRows.{exception_action}
 
 -- the store with other closures and scopes
@@ -190,7 +190,7 @@ module _ (p : Program) (s : Store) (cl : List Closure) (sc : List Scope) where
 
   interval_free : (start stop by : ℤ) → interval other start stop by ≡ relabeled cl sc (interval s start stop by)
   unfolding makes_slots with_new
-  interval_free start stop by = if_by (in_range (pos (interval_size start stop by))) _ _ _ _ refl refl
+  interval_free start stop by = if_by (nat_lt (interval_size start stop by) (2 ^ 127)) _ _ _ _ refl refl
 
   number_at_free : (m : Asked) (r : Value) (args : List Value) → number_at p other m r args ≡ relabeled cl sc (number_at p s m r args)
   unfolding print_text makes_string makes_bytes with_new is_a slot_of slots_of

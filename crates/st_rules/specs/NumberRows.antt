@@ -1,22 +1,23 @@
--- Messages of Integers and Fractions (ANSI 5.6): how numbers are read from values, and what becomes of their answers. The arithmetic itself stands with the numbers.
-use Rattle.std.specs.Prelude.{ℕ, ◌+◌, ℤ, pos, negsuc, nat_abs, true, ◌&&◌, List, [], ◌∷◌, Option, Some, None, nat_eq, nat_le, if◌then◌else◌}
+-- Messages of Integers and Fractions (ANSI 5.6): how numbers are read from values, and what becomes of their answers. The arithmetic itself stands with the numbers, and Intervals with the collections.
+use Rattle.std.specs.Prelude.{ℕ, ◌+◌, ℤ, pos, negsuc, true, ◌&&◌, List, [], ◌∷◌, Option, Some, None, nat_le, if◌then◌else◌}
 use Rattle.std.specs.Fmt.{digits_onto}
 use Rattle.object_heap.specs.declared.value.Value.{Value}
 use Rattle.object_heap.specs.declared.value.Value.TheVariants.{Integer, Object}
 use Rattle.object_heap.specs.declared.trouble.Trouble.{Trouble}
-use Rattle.object_heap.specs.declared.trouble.Trouble.TheVariants.{NumberExpected, StepIsZero, BadRadix}
+use Rattle.object_heap.specs.declared.trouble.Trouble.TheVariants.{NumberExpected, BadRadix}
 use Rattle.object_heap.specs.Store.{Store}
 use Rattle.st_numbers.specs.Answers.{answer_of}
-use Rattle.st_numbers.specs.Numbers.{in_range, is_proper}
+use Rattle.st_numbers.specs.Numbers.{is_proper}
 use Rattle.st_numbers.specs.declared.message.Number.{Number}
 use Rattle.st_numbers.specs.declared.message.NumberAnswer.{NumberAnswer}
 use Rattle.st_numbers.specs.declared.message.NumberArgument.{NumberArgument}
 use Rattle.st_numbers.specs.declared.message.NumberMessage.{NumberMessage as Arithmetic}
 use Rattle.st_code.specs.Program.{Program}
-use Rattle.st_code.specs.BuiltIns.{fraction_class, interval_class}
+use Rattle.st_code.specs.BuiltIns.{fraction_class}
 use Rattle.st_code.specs.Messages.{NumberMessage}
 use Rattle.st_collections.specs.Actions.{Action, Gives, Fails, DividesByZero, PassesIntegers, first, second, makes_slots, makes_string}
-use Rattle.st_collections.specs.Kinds.{is_a, slot_of, integer_of, interval_size, print_text}
+use Rattle.st_collections.specs.IntervalRows.{with_integer, to_action, to_by_action}
+use Rattle.st_collections.specs.Kinds.{is_a, slot_of, integer_of, print_text}
 
 -- a number that stands in lowest terms; no run makes a Fraction that doesn't
 abbrev pub if_proper : Number → Option Number
@@ -63,10 +64,6 @@ of_number s m (Some x) r args = numeric_action s (dividend_of m r) r (first args
 unfoldable pub arithmetic_action : Store → Arithmetic → Value → List Value → Action
 arithmetic_action s m r args = of_number s m (as_number s r) r args
 
-abbrev pub with_integer : Value → (ℤ → Action) → Action
-with_integer (Integer n) act = act n
-with_integer v act = Fails NumberExpected
-
 abbrev pub radix_text : ℕ → ℤ → List ℕ
 radix_text radix (pos n) = digits_onto 128 radix true n []
 radix_text radix (negsuc n) = 45 ∷ digits_onto 128 radix true (n + 1) []
@@ -75,14 +72,6 @@ radix_text radix (negsuc n) = 45 ∷ digits_onto 128 radix true (n + 1) []
 abbrev pub in_radix : Store → ℤ → ℤ → Action
 in_radix s r (pos radix) = if nat_le 2 radix && nat_le radix 36 then makes_string (radix_text radix r) s else Fails BadRadix
 in_radix s r (negsuc radix) = Fails BadRadix
-
--- an Interval; the integer limit where it would have too many elements
-abbrev pub interval : Store → ℤ → ℤ → ℤ → Action
-interval s start stop by =
-    if in_range (pos (interval_size start stop by)) then makes_slots interval_class (Integer start ∷ Integer stop ∷ Integer by ∷ []) s else PassesIntegers
-
-abbrev pub interval_by : Store → ℤ → ℤ → ℤ → Action
-interval_by s start stop by = if nat_eq (nat_abs by) 0 then Fails StepIsZero else interval s start stop by
 
 -- what a message asks for: arithmetic, or what takes more than numbers
 pub data Asked : Type 0 where
@@ -131,8 +120,8 @@ abbrev pub number_at : Program → Store → Asked → Value → List Value → 
 number_at p s (Asked.Computes m) r args = arithmetic_action s m r args
 number_at p s Asked.AsString r args = makes_string (print_text p s r) s
 number_at p s Asked.PrintRadix r args = with_integer (first args) (λ radix. in_radix s (integer_of r) radix)
-number_at p s Asked.To r args = with_integer (first args) (λ stop. interval s (integer_of r) stop (pos 1))
-number_at p s Asked.ToBy r args = with_integer (first args) (λ stop. with_integer (second args) (λ by. interval_by s (integer_of r) stop by))
+number_at p s Asked.To r args = to_action s r (first args)
+number_at p s Asked.ToBy r args = to_by_action s r (first args) (second args)
 number_at p s Asked.FromNumerator r args = with_integer (first args) (λ n. with_integer (second args) (λ d. arithmetic_action s Arithmetic.Divide (Integer n) (Integer d ∷ [])))
 
 unfoldable pub number_action : Program → Store → NumberMessage → Value → List Value → Action
