@@ -48,7 +48,7 @@ static ROWS: [Option<MessageRow>; 278] = [
     Some(MessageRow::Object(OfObject::Question(OfQuestion::RespondsTo))),
     Some(MessageRow::Object(OfObject::Question(OfQuestion::Hash))),
     Some(MessageRow::Object(OfObject::Question(OfQuestion::Yourself))),
-    None,
+    Some(MessageRow::Object(OfObject::Copy)),
     Some(MessageRow::Object(OfObject::PrintString)),
     Some(MessageRow::Object(OfObject::DisplayString)),
     Some(MessageRow::Object(OfObject::Size)),
