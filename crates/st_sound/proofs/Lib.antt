@@ -4,3 +4,6 @@ pub mod Later
 pub mod SoundVisits
 pub mod Meets
 pub mod TableRows
+pub mod SoundSends
+pub mod SoundMachine
+pub mod SoundRun

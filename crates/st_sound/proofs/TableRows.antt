@@ -166,7 +166,7 @@ module _ (p : Program) where
 
 -- ---- levels of a walk
 
-abbrev FailsAll : (ℕ → Bool) → List ℕ → Type 0
+abbrev pub FailsAll : (ℕ → Bool) → List ℕ → Type 0
 FailsAll test [] = Unit {0}
 FailsAll test (x ∷ xs) = (test x ≡ false) × FailsAll test xs
 
@@ -217,7 +217,7 @@ class_or_instance e = let x : same_side OfClass OfInstance ≡ true = subst (λ 
 
 module _ (p : Program) (knows : KnowsCollections p) where
   -- no level of a walk passes, where the class and those above fail
-  fails_walk : (test : ℕ → Bool) → Other test → (from m : Level) → FailsAll test (superclasses p from.class) → OnWalk (walk p from) m → test m.class ≡ false
+  pub fails_walk : (test : ℕ → Bool) → Other test → (from m : Level) → FailsAll test (superclasses p from.class) → OnWalk (walk p from) m → test m.class ≡ false
   unfolding walk
   fails_walk test other from m f h = go from.side h
     where
