@@ -6,3 +6,7 @@ pub mod SendsKeep
 pub mod KeepsMachine
 pub mod KeepsRun
 pub mod VariablesStand
+pub mod KnownCode
+pub mod KnownBodies
+pub mod KnownClasses
+pub mod KnownPrograms
