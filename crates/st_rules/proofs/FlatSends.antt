@@ -84,8 +84,7 @@ module _ (p : Program) (g : Places) (s : Store) (holds : StoreHolds p g s.scopes
       let closures : t.closures ≡ s.closures = ap (λ (x : Store). x.closures) kept in
       (
         e ∙ ap (λ (cs : List Closure). Makes n (with_rest (flat_closures g cs) g.scopes t) v) (sym closures),
-        ap (λ (x : Store). x.scopes) kept,
-        subst (λ (cs : List Closure). ClosuresHold p s.scopes cs) (sym closures) holds.closures,
+        (ap (λ (x : Store). x.scopes) kept, subst (λ (cs : List Closure). ClosuresHold p s.scopes cs) (sym closures) holds.closures),
       )
   row_same a' (Writes text v) e f = (e, tt)
   row_same a' (Fails trouble) e f = (e, tt)

@@ -11,7 +11,7 @@ use Rattle.st_code.specs.Program.{Program, Indexed, NoIndexes, ByObject, ByByte,
 use Rattle.st_code.specs.BuiltIns.{string_class, symbol_class, array_class, ordered_collection_class, association_class, byte_array_class, exception_set_class, metaclass_class}
 use Rattle.st_code.specs.Lookup.{level_of, lookup, class_of, is_plain, is_exception, fits}
 use Rattle.st_code.specs.Messages.{ObjectMessage, ClassMessage, CharacterMessage, StringMessage, SequenceMessage, ExceptionMessage, LoopMessage, BooleanMessage, CollectionMessage, TranscriptMessage}
-use Rattle.st_collections.specs.Actions.{Action, Gives, Changes, Makes, Writes, Fails, Begins, Sends, Iterates, first, second, boolean, next_object, makes_slots, makes_bytes, makes_string, makes_blank}
+use Rattle.st_collections.specs.Actions.{Action, Gives, Changes, Makes, Writes, Fails, Begins, Sends, Iterates, first, second, boolean, makes_slots, makes_bytes, makes_string, makes_blank}
 use Rattle.st_collections.specs.Kinds.{is_true, is_a, bytes_of, slots_of, slot_of, size_of, element, some_elements, elements, is_sequence, is_collection, species, print_text, exception_text, integer_of, natural_of}
 use Rattle.st_collections.specs.ObjectRows.{copied, copy, indexed, byte_put, object_action, class_action, boolean_action}
 use Rattle.st_collections.specs.TextRows.{with_character, from_code_point, with_text, new_string, string_at, or_empty, byte_of, character_action, string_action, transcript_action}
@@ -58,8 +58,12 @@ module _ (p : Program) (s : Store) (h : ObjectsHave (length s.objects) s.objects
   responds r v = record { gets = tt }
 
   copied_has : (o : HeapObject) (c : Option Closure) → AllHave k o.slots → ((d : Closure) → c ≡ Some d → OneAgain s.closures (s.closures ++ d ∷ [])) → G (copied s o c)
-  copied_has o None g again = record { gets = (made_plain s _ (grown_added s h (record { class = o.class; slots = o.slots; bytes = o.bytes; capacity = length o.slots; read_only = false; closure = None }) g), next_has s h o) }
-  copied_has o (Some c) g again = record { gets = (record { grown = grown_added s h (block_object o.class (length s.closures)) tt; closures = inr (again c refl) }, next_has s h o) }
+  copied_has o None g again =
+      let like : HeapObject = record { class = o.class; slots = o.slots; bytes = o.bytes; capacity = length o.slots; read_only = false; closure = None } in
+      record { gets = (made_plain s _ (grown_added s h like g), next_has s h like) }
+  copied_has o (Some c) g again =
+      let block : HeapObject = block_object o.class (length s.closures) in
+      record { gets = (record { grown = grown_added s h block tt; closures = inr (again c refl) }, next_has s h block) }
 
   copies : (v : Value) → Has k v → G (copy s v)
   copies (Object number) g = copied_has (object_at number s) (closure_at number s) (object_slots s h number) (λ d e. one_again s number d e)

@@ -1,5 +1,5 @@
 -- A copy of an object: a new one of its size, whose slots and then whose bytes are written.
-use Rattle.std.proofs.Common.{◌≡◌, ◌≢◌, ℕ, suc, ◌+◌, ◌<◌, ◌≤◌, Ok, Err, None, List, [], ◌∷◌, ◌++◌, length, take, replicate, inl, inr, refl, ap, sym, ◌∙◌, arith}
+use Rattle.std.proofs.Common.{◌≡◌, ◌≢◌, ℕ, suc, ◌+◌, ◌<◌, ◌≤◌, false, Err, None, List, [], ◌∷◌, ◌++◌, length, take, replicate, inl, inr, refl, ap, sym, ◌∙◌, arith}
 use borrow.Author.Tests.{le-leb}
 use Rattle.std.proofs.lemmas.Bool.{cases_lt}
 use Rattle.std.proofs.lemmas.List.{append_assoc, get_or_past, length-append, set_at}
@@ -12,7 +12,7 @@ use Rattle.st_collections.specs.Actions.{next_object}
 use Rattle.st_collections.specs.Answers.{allot_answer, answer_of, memory_of, stop_answer, unless_out}
 use Rattle.st_collections.specs.ObjectRows.{copied}
 use Rattle.st_collections.specs.declared.answer.Built.{Built}
-use Rattle.st_collections.proofs.Objects.{last_object, last_set, paid_of, stop_answer-is, stop_memory}
+use Rattle.st_collections.proofs.Objects.{last_object, last_set, stop_answer-is, stop_memory}
 use Rattle.st_collections.proofs.Steady.{object_steady}
 use Rattle.st_messages.specs.Pieces.{bytes_put, slots_put}
 use Rattle.st_messages.proofs.NewSlots.{slots_taken, slots_within, stands}
