@@ -65,16 +65,16 @@ bytes_read : (n class room : ℕ) (slots : List Value) (s : Store) → (object_a
 bytes_read n class room slots s =
     let o : Object = likeness class slots (replicate (length (object_at n s).bytes) 0) room in
     elim (cases_lt n (length s.objects)) [
-    | inl low ↦ ap (λ (x : Object). x.bytes) (object_steady n o s low)
-    | inr past ↦
-        let none : object_at n s ≡ no_object = get_or_past s.objects n no_object past in
-        elim (cases_lt (length s.objects) n) [
-        | inl above ↦ ap (λ (x : Object). x.bytes) (past_last n o s above ∙ sym none)
-        | inr at ↦
-            let here : n ≡ length s.objects = omega arith in
-            let last : object_at n (object_added o s) ≡ o = ap (λ (k : ℕ). object_at k (object_added o s)) here ∙ last_object o s in
-            ap (λ (x : Object). x.bytes) last ∙ (ap (λ (x : Object). replicate (length x.bytes) 0) none ∙ sym (ap (λ (x : Object). x.bytes) none))
-        ]
+      | inl low ↦ ap (λ (x : Object). x.bytes) (object_steady n o s low)
+      | inr past ↦
+          let none : object_at n s ≡ no_object = get_or_past s.objects n no_object past in
+          elim (cases_lt (length s.objects) n) [
+            | inl above ↦ ap (λ (x : Object). x.bytes) (past_last n o s above ∙ sym none)
+            | inr at ↦
+                let here : n ≡ length s.objects = omega arith in
+                let last : object_at n (object_added o s) ≡ o = ap (λ (k : ℕ). object_at k (object_added o s)) here ∙ last_object o s in
+                ap (λ (x : Object). x.bytes) last ∙ (ap (λ (x : Object). replicate (length x.bytes) 0) none ∙ sym (ap (λ (x : Object). x.bytes) none))
+          ]
     ]
 
 -- ---- the copy, as the code has it
@@ -123,11 +123,11 @@ pub bytes_beside : (m m2 : Memory) (n number charge : ℕ) → number ≡ length
 bytes_beside m m2 n number charge k e h =
     let same : length (object_at n m2.store).bytes ≡ length (object_at n m.store).bytes = ap (λ (xs : List ℕ). length xs) (bytes_same m m2 n charge e) in
     λ is. elim (cases_lt n (length m.store.objects)) [
-    | inl low ↦ absurd (omega arith)
-    | inr past ↦
-        let none : object_at n m.store ≡ no_object = get_or_past m.store.objects n no_object past in
-        let empty : length (object_at n m.store).bytes ≡ 0 = rw none refl in
-        absurd (omega arith)
+      | inl low ↦ absurd (omega arith)
+      | inr past ↦
+          let none : object_at n m.store ≡ no_object = get_or_past m.store.objects n no_object past in
+          let empty : length (object_at n m.store).bytes ≡ 0 = rw none refl in
+          absurd (omega arith)
     ]
 
 pub slots_beside : (m : Memory) (n number slots : ℕ) → slots ≡ length (object_at n m.store).slots → number ≡ length m.store.objects → 0 < slots → n ≢ number

@@ -20,7 +20,7 @@ fn rows() -> &'static [Option<MessageRow>]
 }
 
 /// What the message with this number does. None where that isn't done here: for messages to
-/// numbers and for `copy`.
+/// numbers.
 pub fn row_of(message: u16) -> Option<MessageRow>
     ensures { option_map table_row result ≡ at_once (numbered_row message) }
 {

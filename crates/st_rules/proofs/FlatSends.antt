@@ -81,8 +81,7 @@ module _ (p : Program) (g : Places) (s : Store) (holds : StoreHolds p g s.scopes
   row_same a' (Changes t v) e f = (e, sym (changes_store t (with_rest s.closures s.scopes t) v f))
   row_same a' (Makes n t v) e f =
       let kept : t ≡ with_rest s.closures s.scopes t = makes_store n t (with_rest s.closures s.scopes t) v f in
-      let closures : t.closures ≡ s.closures = ap (λ (x : Store). x.closures) kept in
-      (
+      let closures : t.closures ≡ s.closures = ap (λ (x : Store). x.closures) kept in (
         e ∙ ap (λ (cs : List Closure). Makes n (with_rest (flat_closures g cs) g.scopes t) v) (sym closures),
         (ap (λ (x : Store). x.scopes) kept, subst (λ (cs : List Closure). ClosuresHold p s.scopes cs) (sym closures) holds.closures),
       )
