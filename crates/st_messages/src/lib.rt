@@ -14,11 +14,13 @@ mod facts;
 mod indexed;
 mod level;
 mod makers;
+mod numbers;
 mod objects;
 mod performs;
 mod pieces;
 mod printed;
 mod questions;
+mod radix;
 mod reply;
 mod row;
 mod selectors;
@@ -36,10 +38,11 @@ pub use collections::collection_reply;
 pub use dispatch::{row_message, send_message, super_message};
 pub use exceptions::exception_message;
 pub use facts::ProgramFacts;
+pub use numbers::number_reply;
 pub use objects::object_message;
 pub use reply::{Control, Passed, Reply, Written};
 pub use row::{
-    MessageRow, OfBlock, OfBoolean, OfClass, OfException, OfMaker, OfObject, OfQuestion,
+    MessageRow, OfBlock, OfBoolean, OfClass, OfException, OfMaker, OfNumber, OfObject, OfQuestion,
     OfSelector, OfTranscript,
 };
 pub use selectors::selector_message;
