@@ -1,12 +1,11 @@
 -- The digits of an Integer, written from the last one on.
-use Rattle.std.proofs.Common.{◌≡◌, ◌≢◌, ◌<◌, ◌≤◌, ◌-◌, ◌*◌, ◌+◌, ◌/◌, ◌%◌, ◌^◌, ℕ, zero, suc, ℤ, pos, negsuc, unsigned_abs, true, false, ◌==◌, List, [], ◌∷◌, drop, length, refl, ap, sym, ◌∙◌, arith, add-one}
+use Rattle.std.proofs.Common.{◌≡◌, ◌≢◌, ◌<◌, ◌≤◌, ◌-◌, ◌*◌, ◌+◌, ◌/◌, ◌%◌, ◌^◌, ℕ, zero, suc, true, List, ◌∷◌, drop, length, refl, ap, sym, ◌∙◌, arith}
 use Rattle.std.specs.Fmt.{digit_glyph}
-use Rattle.std.specs.Int.{is_negative}
 use Rattle.std.specs.Prelude.{slice_set}
 use Rattle.std.proofs.lemmas.Bool.{ne_eqb}
 use Rattle.std.proofs.lemmas.List.{drop-set}
 use Rattle.std.proofs.Math.Nat.{div-eq_of_lt, div-lt_iff_lt-mul, div-lt_self, mul-le-mul_left, pow-suc}
-use Rattle.st_rules.specs.NumberRows.{last_digits, radix_text}
+use Rattle.st_rules.specs.NumberRows.{last_digits}
 
 abbrev pub glyph_of : (radix n : ℕ) → ℕ
 glyph_of radix n = digit_glyph true (n % radix)

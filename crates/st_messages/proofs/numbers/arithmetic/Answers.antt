@@ -1,5 +1,4 @@
-use Rattle.std.proofs.Common.{◌≡◌, refl}
-use Rattle.st_rules.specs.NumberRows.{arithmetic_action, numeric_action}
+use Rattle.std.proofs.Common.{refl}
 use Rattle.st_messages.proofs.NumberLaws.{no_number, of_a_number}
 use Rattle.st_messages.proofs.numbers.arithmetic.Goals as goal
 
