@@ -5,6 +5,7 @@ pub mod Declared
 pub mod Order
 pub mod Firsts
 pub mod Numbers
+pub mod There
 pub mod Walks
 pub mod Entries
 pub mod Lookups

@@ -12,3 +12,4 @@ pub mod RadixTexts
 pub mod RowLaws
 pub mod SendLaws
 pub mod SlotPuts
+pub mod Sound
