@@ -7,6 +7,7 @@ pub mod Firsts
 pub mod Numbers
 pub mod There
 pub mod Walks
+pub mod FirstClasses
 pub mod Entries
 pub mod Lookups
 pub mod FindingAlike

@@ -1,5 +1,5 @@
 -- The texts that a program spells are among its names.
-use Rattle.std.proofs.Common.{◌≡◌, ◌<◌, Bool, true, false, ◌||◌, List, [], ◌∷◌, ◌++◌, map, length, refl, ap, ◌∙◌, arith, if◌then◌else◌}
+use Rattle.std.proofs.Common.{◌≡◌, ℕ, suc, ◌+◌, ◌<◌, Bool, true, false, ◌||◌, List, [], ◌∷◌, ◌++◌, map, length, Option, Some, None, refl, ap, ◌∙◌, arith, if◌then◌else◌}
 use Rattle.std.specs.Str.{bytes_eq}
 use Rattle.std.specs.List.{position_or_len, list_any}
 use Rattle.std.proofs.lemmas.List.Folds.{list_any-append}
@@ -8,10 +8,11 @@ use Rattle.std.proofs.lemmas.Cmp.{nat_list_eq_equiv}
 use Rattle.indexmap.specs.IndexSet.{insert_key}
 use Rattle.st_base.specs.BuiltIns.{messages}
 use Rattle.st_tree.specs.declared.units.Unit.{Unit}
-use Rattle.st_code.specs.Texts.{Text}
+use Rattle.st_code.specs.Texts.{Text, same_text}
+use Rattle.st_code.specs.Program.{Program, number_of}
 use Rattle.st_code.specs.Named.{NamedUnit, ClassUnit, GlobalUnit, PoolVariableUnit, InitializerUnit, PoolInitializerUnit, ProgramUnit, MethodUnit, ClassMethodUnit}
 use Rattle.st_code.specs.Written.{named_units}
-use Rattle.st_code.specs.Resolved.{Names, number_or_last}
+use Rattle.st_code.specs.Resolved.{Names, text_in, number_or_last}
 use Rattle.st_code.specs.Definitions.{declared_unit, declared_units, names_of, built_in_names}
 use Rattle.st_code.specs.BuiltIns.{built_in_class_rows}
 use Rattle.program_image.specs.Spelled.{spelled, names_in, selector_of, units_texts}
@@ -31,6 +32,41 @@ position-low p (x ∷ xs) e = step (p x) refl e (position-low p xs)
 -- the number of a text that is there
 pub number-low : (names : List Text) (t : Text) → list_any (bytes_eq t) names ≡ true → number_or_last names t < length names
 number-low names t there = rw (number-place names t) (position-low (bytes_eq t) names there)
+
+-- ---- the number of a name
+
+abbrev from : List Text → Text → ℕ → ℕ
+from [] text n = n
+from (t ∷ names) text n = elim (same_text t text) [ true ↦ n | false ↦ from names text (n + 1) ]
+
+abbrev or_last : Option ℕ → ℕ → ℕ
+or_last (Some k) last = k
+or_last None last = last
+
+abbrev pick : {A : Type 0} → Bool → A → A → A
+pick b x y = elim b [ true ↦ x | false ↦ y ]
+
+from-step : (b : Bool) (n m last : ℕ) (o : Option ℕ) → m ≡ or_last o last → pick b n m ≡ or_last (pick b (Some n) o) last
+from-step true n m last o is = refl
+from-step false n m last o is = is
+
+from-place : (names : List Text) (t : Text) (n : ℕ) → from names t n ≡ or_last (text_in n names t) (n + length names)
+from-place [] t n = omega arith
+from-place (u ∷ names) t n =
+    let next : n + 1 ≡ suc n = omega arith in
+    let last : suc n + length names ≡ n + length (u ∷ names) = omega arith in
+    let rest : from names t (n + 1) ≡ or_last (text_in (suc n) names t) (n + length (u ∷ names)) = ap (from names t) next ∙ from-place names t (suc n) ∙ ap (or_last (text_in (suc n) names t)) last in
+    from-step (same_text u t) n (from names t (n + 1)) (n + length (u ∷ names)) (text_in (suc n) names t) rest
+
+last-or : (o : Option ℕ) (last : ℕ) → or_last o last ≡ elim o [ Some k ↦ k | None ↦ last ]
+last-or (Some k) last = refl
+last-or None last = refl
+
+pub number-last : (p : Program) (t : Text) → number_of p t ≡ number_or_last p.names t
+unfolding number_of
+number-last p t =
+    let start : 0 + length p.names ≡ length p.names = omega arith in
+    from-place p.names t 0 ∙ ap (or_last (text_in 0 p.names t)) start ∙ last-or (text_in 0 p.names t) (length p.names)
 
 -- ---- what is spelled
 

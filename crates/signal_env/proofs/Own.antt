@@ -11,43 +11,8 @@ use Rattle.st_code.specs.Program.{Program, number_of}
 use Rattle.st_code.specs.Resolved.{text_in, number_or_last}
 use Rattle.program_image.specs.Images.{image_names, image_program}
 use Rattle.program_image.proofs.Numbers.{named-there}
-use Rattle.program_image.proofs.There.{position-low}
+use Rattle.program_image.proofs.There.{position-low, number-last}
 use Rattle.signal_env.specs.Own.{IsSelector}
-
--- ---- the number of a name
-
-abbrev from : List Text → Text → ℕ → ℕ
-from [] text n = n
-from (t ∷ names) text n = elim (same_text t text) [ true ↦ n | false ↦ from names text (n + 1) ]
-
-abbrev or_last : Option ℕ → ℕ → ℕ
-or_last (Some k) last = k
-or_last None last = last
-
-abbrev pick : {A : Type 0} → Bool → A → A → A
-pick b x y = elim b [ true ↦ x | false ↦ y ]
-
-from-step : (b : Bool) (n m last : ℕ) (o : Option ℕ) → m ≡ or_last o last → pick b n m ≡ or_last (pick b (Some n) o) last
-from-step true n m last o is = refl
-from-step false n m last o is = is
-
-from-place : (names : List Text) (t : Text) (n : ℕ) → from names t n ≡ or_last (text_in n names t) (n + length names)
-from-place [] t n = omega arith
-from-place (u ∷ names) t n =
-    let next : n + 1 ≡ suc n = omega arith in
-    let last : suc n + length names ≡ n + length (u ∷ names) = omega arith in
-    let rest : from names t (n + 1) ≡ or_last (text_in (suc n) names t) (n + length (u ∷ names)) = ap (from names t) next ∙ from-place names t (suc n) ∙ ap (or_last (text_in (suc n) names t)) last in
-    from-step (same_text u t) n (from names t (n + 1)) (n + length (u ∷ names)) (text_in (suc n) names t) rest
-
-last-or : (o : Option ℕ) (last : ℕ) → or_last o last ≡ elim o [ Some k ↦ k | None ↦ last ]
-last-or (Some k) last = refl
-last-or None last = refl
-
-number-last : (p : Program) (t : Text) → number_of p t ≡ number_or_last p.names t
-unfolding number_of
-number-last p t =
-    let start : 0 + length p.names ≡ length p.names = omega arith in
-    from-place p.names t 0 ∙ ap (or_last (text_in 0 p.names t)) start ∙ last-or (text_in 0 p.names t) (length p.names)
 
 -- ---- places
 
