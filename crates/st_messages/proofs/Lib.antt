@@ -1,6 +1,7 @@
 pub mod AtOnce
 pub mod Blanks
 pub mod CollectionsAtOnce
+pub mod Copying
 pub mod KindLaws
 pub mod MissedTexts
 pub mod NewSlots

@@ -35,6 +35,7 @@ question_row OfQuestion.Yourself = ObjectMessage.Yourself
 
 abbrev pub object_row : OfObject → ObjectMessage
 object_row (OfObject.Question m) = question_row m
+object_row OfObject.Copy = ObjectMessage.Copy
 object_row OfObject.PrintString = ObjectMessage.PrintString
 object_row OfObject.DisplayString = ObjectMessage.DisplayString
 object_row OfObject.Size = ObjectMessage.Size
@@ -150,7 +151,6 @@ table_row (MessageRow.Slot slot) = Slots slot
 
 -- the rows that are here
 abbrev pub at_once : Row → Option Row
-at_once (Objects ObjectMessage.Copy) = None
 at_once (Numbers m) = None
 at_once row = Some row
 

@@ -187,7 +187,7 @@ fn found_message<H: Heap, P: ProgramFacts>(
 }
 
 /// Does what a send does at once (section 3.3). None, with nothing changed, where it finds a
-/// message that isn't done here, of numbers or `copy`, or where `row_message` has none.
+/// message that isn't done here, of numbers, or where `row_message` has none.
 pub fn send_message<H: Heap, P: ProgramFacts>(
     heap: &mut H,
     program: &P,

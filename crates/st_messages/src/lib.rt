@@ -7,6 +7,7 @@ mod booleans;
 mod built_in;
 mod classes;
 mod collections;
+mod copies;
 mod dispatch;
 mod exception_texts;
 mod exceptions;

@@ -29,6 +29,8 @@ pub enum MessageRow {
 pub enum OfObject {
     /// What it is.
     Question(OfQuestion),
+    /// `copy`
+    Copy,
     /// `printString`
     PrintString,
     /// `displayString`

@@ -20,7 +20,7 @@ fn rows() -> &'static [Option<MessageRow>]
 }
 
 /// What the message with this number does. None where that isn't done here: for messages to
-/// numbers and for `copy`.
+/// numbers.
 pub fn row_of(message: u16) -> Option<MessageRow>
     ensures { option_map table_row result ≡ at_once (numbered_row message) }
 {
@@ -48,7 +48,7 @@ static ROWS: [Option<MessageRow>; 278] = [
     Some(MessageRow::Object(OfObject::Question(OfQuestion::RespondsTo))),
     Some(MessageRow::Object(OfObject::Question(OfQuestion::Hash))),
     Some(MessageRow::Object(OfObject::Question(OfQuestion::Yourself))),
-    None,
+    Some(MessageRow::Object(OfObject::Copy)),
     Some(MessageRow::Object(OfObject::PrintString)),
     Some(MessageRow::Object(OfObject::DisplayString)),
     Some(MessageRow::Object(OfObject::Size)),
