@@ -2,9 +2,10 @@
 use Rattle.std.proofs.Common.{◌≡◌, ℕ, ◌+◌, ◌-◌, inl, ℤ, pos, negsuc, int_lt, is_some, nat_abs, nat_eq, nat_le, nat_lt, not, ◌&&◌, ◌||◌, codes, length, get_or, map, reverse, replicate, insert, List, [], ◌∷◌, ◌++◌, Option, Some, None, Bool, true, false, eqb-true, refl, sym, arith, if◌then◌else◌}
 use Rattle.object_heap.specs.declared.value.Value.{Value}
 use Rattle.object_heap.specs.declared.value.Value.TheVariants.{Nil, True, False, Integer, Character, Symbol, Class, Object}
+use Rattle.object_heap.specs.declared.value.Closure.{Closure}
 use Rattle.object_heap.specs.declared.trouble.Trouble.{Trouble}
 use Rattle.object_heap.specs.declared.trouble.Trouble.TheVariants as trouble
-use Rattle.object_heap.specs.Store.{Store, Object as HeapObject, object_at, with_slot, with_byte}
+use Rattle.object_heap.specs.Store.{Store, Object as HeapObject, object_at, closure_at, with_slot, with_byte}
 use Rattle.st_code.specs.Texts.{Text, arity, same_text, text_less, to_lower}
 use Rattle.st_code.specs.Program.{Program, Indexed, NoIndexes, ByObject, ByByte, class_at, name_at, number_of}
 use Rattle.st_code.specs.BuiltIns.{string_class, symbol_class, array_class, ordered_collection_class, association_class, byte_array_class, interval_class, fraction_class}
@@ -13,7 +14,7 @@ use Rattle.st_code.specs.Messages.{ObjectMessage, ClassMessage, CharacterMessage
 use Rattle.st_collections.specs.Actions.{Action, Gives, Changes, Makes, Writes, Fails, PassesIntegers, Begins, Sends, first, second, boolean, makes_slots, makes_bytes, makes_string, makes_blank}
 use Rattle.st_collections.specs.IntervalRows.{with_integer, interval, interval_by}
 use Rattle.st_collections.specs.Kinds.{is_true, is_a, bytes_of, slots_of, size_of, element, some_elements, elements, is_sequence, is_collection, species, print_text, natural_of, integer_of}
-use Rattle.st_collections.specs.ObjectRows.{indexed, index_in, byte_value, byte_put, sized, object_action, class_action, boolean_action}
+use Rattle.st_collections.specs.ObjectRows.{copied, indexed, index_in, byte_value, byte_put, sized, object_action, class_action, boolean_action}
 use Rattle.st_collections.specs.TextRows.{with_character, from_code_point, with_text, new_string, string_at, or_empty, byte_of, character_action, string_action, transcript_action}
 use Rattle.st_collections.specs.SequenceRows.{makes_sequence, element_trouble, at_put, join, copy_between, copy_from_to, with_elements, without_element, firsts, seconds, written, is_index, ordered_at, changed, sequence_action, collection_action}
 use Rattle.st_numbers.specs.Answers.{answer_of}
@@ -90,9 +91,9 @@ module _ (p : Program) (s : Store) (n : ℕ) where
 
   -- ---- every object
 
-  copied_passes : (c : Option ℕ) (a : Action) (f : ℕ → Action) → Passes a → ((k : ℕ) → Passes (f k)) → Passes (elim c [ None ↦ a | Some k ↦ f k ])
-  copied_passes None a f g h = g
-  copied_passes (Some k) a f g h = h k
+  copied_passes : (o : HeapObject) (c : Option Closure) → Passes (copied s o c)
+  copied_passes o None = record { passes = tt }
+  copied_passes o (Some closure) = record { passes = tt }
 
   display_passes : (o : Option Text) (r : Value) → Passes (elim o [ Some bytes ↦ makes_string bytes s | None ↦ Sends (number_of p (codes "printString")) r [] ])
   display_passes None r = record { passes = print_takes p }
@@ -162,7 +163,7 @@ module _ (p : Program) (s : Store) (n : ℕ) where
   objects_pass ObjectMessage.IsSymbol (Symbol name) args = record { passes = tt }
   objects_pass ObjectMessage.IsSymbol r args = record { passes = tt }
   objects_pass ObjectMessage.RespondsTo r args = responds r (first args)
-  objects_pass ObjectMessage.Copy (Object k) args = copied_passes (object_at k s).closure _ (λ j. Makes 2 _ _) record { passes = tt } (λ j. record { passes = tt })
+  objects_pass ObjectMessage.Copy (Object k) args = copied_passes (object_at k s) (closure_at k s)
   objects_pass ObjectMessage.Copy r args = record { passes = tt }
   objects_pass ObjectMessage.PrintString r args = string_passes _
   objects_pass ObjectMessage.DisplayString (Character byte) args = string_passes (byte ∷ [])
