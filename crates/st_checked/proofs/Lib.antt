@@ -1,0 +1,5 @@
+pub mod Texts
+pub mod CheckedBodies
+pub mod CheckedClasses
+pub mod CheckedNames
+pub mod CheckedUnits
