@@ -1,5 +1,5 @@
 -- Each name that a body assigns to is one of its mentions, so where those stand for variables its statements assign to variables.
-use Rattle.std.proofs.Common.{◌≡◌, ℕ, List, [], ◌∷◌, ◌++◌, map, Bool, true, false, refl, sym, ap, subst}
+use Rattle.std.proofs.Common.{◌≡◌, ℕ, List, [], ◌∷◌, ◌++◌, map, true, refl, sym, subst}
 use Rattle.st_tree.specs.declared.tree.Name.{Name}
 use Rattle.st_tree.specs.declared.tree.Primary.{Primary, roll-Primary}
 use Rattle.st_tree.specs.declared.tree.Primary.TheOpen.{Primary-F, Statement-F, Block-F, Body-F, Expr-F, Message-F, Operand-F}
@@ -13,9 +13,9 @@ use Rattle.st_tree.specs.declared.tree.Operand.{Operand, roll-Operand}
 use Rattle.st_code.specs.Texts.{Text}
 use Rattle.st_code.specs.Program.{Side}
 use Rattle.st_code.specs.Resolved.{Names, meant}
-use Rattle.st_code.specs.Named.{NamedPrimary, NamedOperand, NamedOperands, NamedMessages, NamedExpr, NamedStatements, NamedBody}
+use Rattle.st_code.specs.Named.{NamedPrimary, NamedOperand, NamedExpr, NamedBody}
 use Rattle.st_code.specs.Written.{name_text, NamedStatement, NamedBlock, NamedMessage, primary_step, statement_step, block_step, body_step, expr_step, message_step, operand_step, named_primary, named_statement, named_block, named_body, named_expr, named_message, named_operand, message_row, operand_row, statement_row}
-use Rattle.st_code.proofs.Written.{a_message, a_body, a_block, message-roll, operand-roll, expr-roll, body-roll, block-roll}
+use Rattle.st_code.proofs.Written.{message-roll, operand-roll, expr-roll, body-roll, block-roll}
 use Rattle.st_checks.specs.Bodies.{Scope, Mention, Within, OfBody, mention, all_within, in_primary, in_statement, in_block, in_body, in_expr, in_message, in_operand, names_in_primary, names_in_statement, names_in_block, names_in_body, names_in_expr, names_in_message, names_in_operand}
 use Rattle.st_variables.specs.Assigned.{IsPlace, AllPlaces, PrimaryAssigns, OperandAssigns, OperandsAssign, MessagesAssign, ExprAssigns, StatementsAssign}
 

@@ -1,5 +1,5 @@
 -- What the units of a file declare is found by the names of its program: classes with what their superclasses have, globals and variables of pools.
-use Rattle.std.proofs.Common.{◌≡◌, ℕ, zero, suc, ◌+◌, ◌<◌, ◌≤◌, ◌⊎◌, inl, inr, List, [], ◌∷◌, ◌++◌, map, length, get_or, append_assoc, append-nil, Option, Some, None, Bool, true, false, ◌&&◌, ◌||◌, not, nat_eq, refl, sym, ap, ◌∙◌, subst, arith, eq-eqb, if◌then◌else◌, true≢false}
+use Rattle.std.proofs.Common.{◌≡◌, ℕ, ◌+◌, ◌<◌, ◌⊎◌, inl, inr, List, [], ◌∷◌, ◌++◌, map, length, append_assoc, append-nil, Option, Some, None, Bool, true, false, ◌&&◌, ◌||◌, nat_eq, refl, sym, ap, ◌∙◌, subst, arith, eq-eqb, if◌then◌else◌, true≢false}
 use Rattle.std.proofs.lemmas.List.{length-append, get_or_append_left}
 use Rattle.std.proofs.lemmas.List.Folds.{list_any-append}
 use Rattle.std.specs.Str.{bytes_eq}
@@ -10,15 +10,14 @@ use Rattle.st_tree.specs.declared.units.UnitKind.{UnitKind}
 use Rattle.st_tree.specs.declared.units.UnitKind.TheVariants as kinds
 use Rattle.st_tree.specs.declared.units.Unit.{Unit as FileUnit}
 use Rattle.st_code.specs.Texts.{Text, same_text}
-use Rattle.st_code.specs.Named.{NamedUnit, ClassUnit, GlobalUnit, PoolVariableUnit}
-use Rattle.st_code.specs.Program.{ClassRow}
+use Rattle.st_code.specs.Named.{NamedUnit}
 use Rattle.st_code.specs.Written.{named_class, named_kind, named_unit, with_named, named_units}
 use Rattle.st_code.specs.Resolved.{SharedName, GlobalName, PoolName, ClassName, ClassInstanceName, same_shared, ClassNames, Names, no_names, class_names_at, class_in}
 use Rattle.st_code.specs.Definitions.{class_over, class_variables, declared_unit, declared_units, names_of, or_zero}
 use Rattle.st_code.specs.BuiltIns.{built_in_class_rows, built_in_classes}
 use Rattle.st_checks.specs.Declarations.{is_built_in, declares_class, declares_global, declares_in_pool, is_class, class_of_unit, class_named}
-use Rattle.st_variables.proofs.KnownClasses.{built, after, Between, found_between}
-use Rattle.st_checked.proofs.Texts.{both_true, both_false, or_left, or_right, eq_is, eq_itself, same_bytes, find_some, find_none, find_append, find_behind, any_left, any_right, Found, Held, named_in, class_found, class_absent, class_kept, class_behind, found_one}
+use Rattle.st_variables.proofs.KnownClasses.{built, Between, found_between}
+use Rattle.st_checked.proofs.Texts.{both_true, or_left, or_right, same_bytes, find_append, find_behind, any_left, any_right, Found, Held, named_in, class_found, class_kept, class_behind, found_one}
 
 other_way : {A : Type 0} → false ≡ true → A
 other_way e = let none : ⊥ = true≢false (sym e) in absurd none

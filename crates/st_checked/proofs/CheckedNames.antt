@@ -1,5 +1,5 @@
 -- A name that the static rules call assignable stands for a variable.
-use Rattle.std.proofs.Common.{◌≡◌, ℕ, zero, suc, ◌+◌, ◌<◌, ◌⊎◌, inl, inr, List, [], ◌∷◌, ◌++◌, map, length, codes, Option, Some, None, Bool, true, false, ◌||◌, refl, sym, ap, ◌∙◌, subst, arith, if◌then◌else◌, true≢false}
+use Rattle.std.proofs.Common.{◌≡◌, ℕ, zero, suc, ◌+◌, ◌<◌, List, [], ◌∷◌, ◌++◌, map, length, codes, Option, Some, None, Bool, true, false, ◌||◌, refl, sym, ap, ◌∙◌, subst, arith, if◌then◌else◌, true≢false}
 use Rattle.std.proofs.lemmas.List.Folds.{list_any-append}
 use Rattle.std.specs.Str.{bytes_eq}
 use Rattle.std.specs.List.{list_any, find}
@@ -12,12 +12,12 @@ use Rattle.st_tree.specs.declared.units.Unit.{Unit as FileUnit}
 use Rattle.st_code.specs.Texts.{Text}
 use Rattle.st_code.specs.Written.{name_text}
 use Rattle.st_code.specs.Program.{Place, Scoped, Slot, ClassSlot, Side, OfInstance, OfClass, OfMeta}
-use Rattle.st_code.specs.Resolved.{SharedName, GlobalName, PoolName, ClassName, place_in, ClassNames, Names, class_names_at, class_in, text_in, Meant, At, Value', or_meant, meant_shared, in_pools, in_classes, meant_class, own_names, meant_slot, or_transcript, meant_outside, meant_from, meant}
+use Rattle.st_code.specs.Resolved.{SharedName, GlobalName, PoolName, ClassName, place_in, ClassNames, Names, class_names_at, class_in, text_in, Meant, At, or_meant, meant_shared, in_pools, in_classes, meant_class, own_names, meant_slot, or_transcript, meant_outside, meant_from, meant}
 use Rattle.st_checks.specs.Declarations.{is_class, declares_global, declares_pool, declares_in_pool, class_named, from_class, ancestors}
 use Rattle.st_checks.specs.Bodies.{Scope}
 use Rattle.st_checks.specs.Meanings.{Meaning, Undeclared, Fixed, Assignable, or_else, assignable_if, fixed_if, declares, in_scope, in_scopes, of_unit, in_pool, in_pools as pools_mean, own_names as own_of, in_instances, in_classes as classes_mean, in_program, meaning_outside}
 use Rattle.st_variables.specs.Assigned.{IsPlace}
-use Rattle.st_checked.proofs.Texts.{both_false, any_left, any_right, find_some, Found, Held, text_found, text_absent, held_found, class_absent}
+use Rattle.st_checked.proofs.Texts.{both_false, any_left, any_right, find_some, Found, text_found, text_absent, held_found, class_absent}
 use Rattle.st_checked.proofs.CheckedClasses.{Declared, Told}
 use Rattle.st_checked.proofs.CheckedBodies.{scope_texts, texts}
 

@@ -1,5 +1,5 @@
 -- Units that meet the static rules assign to variables alone, and their classes extend classes that may be extended.
-use Rattle.std.proofs.Common.{◌≡◌, ℕ, zero, suc, ◌+◌, ◌<◌, ◌⊎◌, inl, inr, List, [], ◌∷◌, ◌++◌, map, take, length, slice_get, codes, append_assoc, append-nil, Option, Some, None, Bool, true, false, ◌||◌, ◌&&◌, not, refl, sym, ap, ◌∙◌, subst, arith, true≢false}
+use Rattle.std.proofs.Common.{◌≡◌, ℕ, ◌+◌, ◌⊎◌, inl, inr, List, [], ◌∷◌, ◌++◌, map, take, length, slice_get, codes, append_assoc, Option, Some, None, Bool, true, false, ◌||◌, ◌&&◌, not, refl, sym, ap, ◌∙◌, subst, arith, true≢false}
 use Rattle.std.specs.Str.{bytes_eq}
 use Rattle.std.specs.List.{list_any, list_all, Contains}
 use Rattle.std.specs.Option.{option_map}
@@ -12,26 +12,26 @@ use Rattle.st_tree.specs.declared.units.UnitKind.{UnitKind}
 use Rattle.st_tree.specs.declared.units.UnitKind.TheVariants as kinds
 use Rattle.st_tree.specs.declared.units.Unit.{Unit as FileUnit}
 use Rattle.st_code.specs.Texts.{Text, same_text}
-use Rattle.st_code.specs.Written.{name_text, named_body, named_kind, named_unit, with_named, named_units}
+use Rattle.st_code.specs.Written.{name_text, named_body, named_kind, with_named, named_units}
 use Rattle.st_code.specs.Named.{NamedUnit}
 use Rattle.st_code.specs.Program.{OfInstance, OfClass}
 use Rattle.st_code.specs.Resolved.{Names, class_in}
-use Rattle.st_code.specs.Definitions.{RunLimits, built_in_names, names_of, or_zero, program_of}
+use Rattle.st_code.specs.Definitions.{names_of, or_zero}
 use Rattle.st_code.specs.BuiltIns.{built_in_class_rows, built_in_classes, undefined_object_class}
 use Rattle.st_checks.specs.Declarations.{is_built_in, superclasses, declares_class, is_class, class_named}
 use Rattle.st_checks.specs.Bodies.{Mention}
-use Rattle.st_checks.specs.Meanings.{Meaning, Undeclared, Fixed, Assignable, Written, written, outside_classes, initializer, meaning}
-use Rattle.st_checks.specs.StaticRules.{Break, first_break, naming, duplicates_class, lacks_superclass, MeetsRules}
+use Rattle.st_checks.specs.Meanings.{Meaning, Undeclared, Fixed, Assignable, Written, outside_classes, initializer, meaning}
+use Rattle.st_checks.specs.StaticRules.{Break, naming, duplicates_class, lacks_superclass, MeetsRules}
 use Rattle.st_checks.specs.Breaks.{IsKind, HasBody, Breaks, IsFirst, start, body_byte}
 use Rattle.st_checks.specs.Breaks as rule
 use Rattle.st_checks.proofs.FirstLaw.{first_break_is_first}
 use Rattle.st_checks.proofs.Members.{Contains-here, Contains-there}
 use Rattle.st_variables.specs.Known.{is_open}
-use Rattle.st_variables.specs.Assigned.{BodyAssigns, InitializerAssigns, UnitAssigns, UnitsAssign, IsExtensible, Extends, Assigned}
+use Rattle.st_variables.specs.Assigned.{BodyAssigns, InitializerAssigns, UnitsAssign, IsExtensible, Extends}
 use Rattle.st_variables.proofs.KnownClasses.{built}
 use Rattle.st_variables.proofs.KnownPrograms.{programs_know_variables}
 use Rattle.st_checked.specs.Checked.{CheckedUnitsAssign, CheckedProgramsKnowVariables}
-use Rattle.st_checked.proofs.Texts.{both_true, or_right, eq_is, Found, named_in, class_found, class_absent}
+use Rattle.st_checked.proofs.Texts.{both_true, or_right, eq_is, class_found, class_absent}
 use Rattle.st_checked.proofs.CheckedBodies.{MentionsFine, body_fine}
 use Rattle.st_checked.proofs.CheckedClasses.{Declared, Told, Over, told, built_named}
 use Rattle.st_checked.proofs.CheckedNames.{name_fine}

@@ -1,12 +1,12 @@
 -- The classes of a file by number: each has the slots and class instance variables of the class above it, and its own.
-use Rattle.std.proofs.Common.{◌≡◌, ℕ, zero, suc, ◌+◌, ◌<◌, ◌≤◌, ◌⊎◌, inl, inr, List, [], ◌∷◌, ◌++◌, map, length, get_or, append_assoc, append-nil, Option, Some, None, Bool, true, false, not, ◌&&◌, ◌||◌, refl, sym, ap, ◌∙◌, subst, arith, nat_lt, nat_le, nat_eq, eqb-true, ltb-true, true≢false}
+use Rattle.std.proofs.Common.{◌≡◌, ℕ, zero, suc, ◌+◌, ◌<◌, ◌≤◌, ◌⊎◌, inl, inr, List, [], ◌∷◌, ◌++◌, map, length, append_assoc, append-nil, Option, Some, None, Bool, true, false, not, ◌&&◌, ◌||◌, refl, sym, ap, ◌∙◌, subst, arith, nat_lt, nat_eq, eqb-true, ltb-true, true≢false}
 use Rattle.std.proofs.lemmas.Bool.{le-leb}
 use Rattle.std.proofs.lemmas.List.{length-append, length-map}
 use Rattle.st_code.specs.Texts.{Text, same_text}
-use Rattle.st_code.specs.Program.{ClassRow, NoIndexes}
+use Rattle.st_code.specs.Program.{ClassRow}
 use Rattle.st_code.specs.Named.{NamedClass, NamedUnit, ClassUnit, GlobalUnit, PoolVariableUnit, InitializerUnit, PoolInitializerUnit, ProgramUnit, MethodUnit, ClassMethodUnit}
 use Rattle.st_code.specs.Resolved.{SharedName, ClassName, ClassInstanceName, ClassNames, Names, no_names, class_names_at, class_in}
-use Rattle.st_code.specs.Definitions.{built_in_names, class_row, class_over, class_variables, declared_unit, declared_units, names_of, or_zero}
+use Rattle.st_code.specs.Definitions.{built_in_names, class_over, class_variables, declared_unit, declared_units, names_of, or_zero}
 use Rattle.st_code.specs.BuiltIns.{built_in_classes, built_in_class_rows, exception_set_class, class_class}
 use Rattle.st_variables.specs.Known.{is_open}
 use Rattle.st_variables.specs.Assigned.{IsExtensible, Extends}
