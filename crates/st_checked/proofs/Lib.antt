@@ -1,5 +1,6 @@
-pub mod Texts
-pub mod CheckedBodies
 pub mod CheckedClasses
-pub mod CheckedNames
-pub mod CheckedUnits
+pub mod Texts
+pub mod AssignedBodies
+pub mod DeclaredNames
+pub mod AssignedNames
+pub mod AssignedUnits

@@ -1,6 +1,8 @@
-// What checked units give a run: that each variable which their code names stands.
+// What the static rules give: programs that meet them have what the laws over runs ask for.
 #![tactic(auto)]
 
-mod checked;
+mod collections;
+mod variables;
 
-pub use checked::checked_units_know_their_variables;
+pub use collections::checked_programs_keep_their_collections;
+pub use variables::checked_units_know_their_variables;

@@ -69,8 +69,8 @@ pub fn words_of(words: Words) -> &'static [u8]
     }
 }
 
-// Writes bytes into an object, and answers the place behind them.
-fn put_bytes<H: Heap>(heap: &mut H, object: u32, at: u32, bytes: &[u8]) -> u32
+/// Writes bytes into an object, and answers the place behind them.
+pub fn put_bytes<H: Heap>(heap: &mut H, object: u32, at: u32, bytes: &[u8]) -> u32
     requires { at + length bytes.now < 2 ^ 32 }
     ensures written { H.meaning heap.new ≡ with_store (bytes_put object at bytes.now (H.meaning heap.old).store) (H.meaning heap.old) }
     ensures behind { result ≡ at + length bytes.now }
