@@ -16,7 +16,7 @@ use Rattle.st_code.specs.Written.{name_text, named_body, named_kind, with_named,
 use Rattle.st_code.specs.Named.{NamedUnit}
 use Rattle.st_code.specs.Program.{OfInstance, OfClass}
 use Rattle.st_code.specs.Resolved.{Names, class_in}
-use Rattle.st_code.specs.Definitions.{names_of, or_zero}
+use Rattle.st_code.specs.Definitions.{names_of, or_zero, program_of}
 use Rattle.st_code.specs.BuiltIns.{built_in_class_rows, built_in_classes, undefined_object_class}
 use Rattle.st_checks.specs.Declarations.{is_built_in, superclasses, declares_class, is_class, class_named}
 use Rattle.st_checks.specs.Bodies.{Mention}
@@ -29,8 +29,12 @@ use Rattle.st_checks.proofs.Members.{Contains-here, Contains-there}
 use Rattle.st_variables.specs.Known.{is_open}
 use Rattle.st_variables.specs.Assigned.{BodyAssigns, InitializerAssigns, UnitsAssign, IsExtensible, Extends}
 use Rattle.st_variables.proofs.KnownClasses.{built}
+use Rattle.st_rules.proofs.KnownClasses.{programs_know_classes}
+use Rattle.st_rules.proofs.KnownProgram.{programs_know_literals}
+use Rattle.st_rules.proofs.SoundProgram.{programs_are_compilable}
 use Rattle.st_variables.proofs.KnownPrograms.{programs_know_variables}
-use Rattle.st_checked.specs.CheckedVariables.{CheckedUnitsAssign, CheckedProgramsKnowVariables}
+use Rattle.st_variables.proofs.VariablesStand.{each_variable_stands, each_object_is_full}
+use Rattle.st_checked.specs.CheckedVariables.{CheckedUnitsAssign, CheckedProgramsKnowVariables, CheckedVariablesStand, CheckedObjectsAreFull}
 use Rattle.st_checked.proofs.Texts.{both_true, or_right, eq_is, class_found, class_absent}
 use Rattle.st_checked.proofs.AssignedBodies.{MentionsFine, body_fine}
 use Rattle.st_checked.proofs.DeclaredNames.{Declared, Told, Over, told, built_named}
@@ -283,3 +287,13 @@ checked_units_assign names units meets = record { places = all_assign units meet
 
 pub checked_programs_know_variables : CheckedProgramsKnowVariables
 checked_programs_know_variables names units limits meets = programs_know_variables names (named_units units) limits (checked_units_assign names units meets)
+
+pub checked_variables_stand : CheckedVariablesStand
+checked_variables_stand names units limits meets =
+    let us = named_units units in
+    each_variable_stands (program_of names us limits) (programs_are_compilable names us limits) (programs_know_literals names us limits) (programs_know_classes names us limits) (checked_programs_know_variables names units limits meets)
+
+pub checked_objects_are_full : CheckedObjectsAreFull
+checked_objects_are_full names units limits meets =
+    let us = named_units units in
+    each_object_is_full (program_of names us limits) (programs_are_compilable names us limits) (programs_know_literals names us limits) (programs_know_classes names us limits) (checked_programs_know_variables names units limits meets)
