@@ -2,5 +2,7 @@
 #![tactic(auto)]
 
 mod collections;
+mod variables;
 
 pub use collections::checked_programs_keep_their_collections;
+pub use variables::checked_units_know_their_variables;

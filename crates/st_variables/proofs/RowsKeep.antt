@@ -2,7 +2,7 @@
 use Rattle.std.proofs.Common.{◌≡◌, ℕ, zero, suc, ◌+◌, ◌-◌, ◌≤◌, ℤ, pos, negsuc, nat_eq, nat_le, nat_lt, int_lt, int_le, is_some, codes, length, get_or, take, drop, reverse, replicate, map, insert, List, [], ◌∷◌, ◌++◌, Option, Some, None, Bool, true, false, not, ◌&&◌, ◌||◌, refl, sym, ◌∙◌, arith, if◌then◌else◌, slice_get}
 use Rattle.std.proofs.lemmas.List.{length-append, length-replicate}
 use Rattle.object_heap.specs.declared.value.Value.{Value}
-use Rattle.object_heap.specs.declared.value.Value.TheVariants.{Nil, True, False, Integer, Character, Symbol, Class, Meta, Transcript, Object}
+use Rattle.object_heap.specs.declared.value.Value.TheVariants.{Nil, True, False, Integer, Character, Symbol, Class, Transcript, Object}
 use Rattle.object_heap.specs.declared.trouble.Trouble.{Trouble}
 use Rattle.object_heap.specs.declared.trouble.Trouble.TheVariants as trouble
 use Rattle.std.specs.Option.{option_and_then}
@@ -20,7 +20,7 @@ use Rattle.st_collections.specs.TextRows.{with_character, from_code_point, with_
 use Rattle.st_collections.specs.SequenceRows.{makes_sequence, element_trouble, at_put, join, copy_between, copy_from_to, with_elements, without_element, firsts, seconds, written, is_index, ordered_at, changed, class_number, sequence_action, collection_action}
 use Rattle.st_collections.specs.Loops.{loop_action}
 use Rattle.st_rules.specs.ExceptionRows.{exception_at, to_exception, kept_or_text, handles, new_exception, signal_new, selectors_of, exception_action}
-use Rattle.st_variables.specs.Known.{InFile, Full, AllFull, KnowsVariables}
+use Rattle.st_variables.specs.Known.{InFile, AllFull, KnowsVariables}
 use Rattle.st_variables.proofs.Wholes.{NoObject, NoClass, MessageKeeps, ActionKeeps, not_of_file, full_at, full_append, new_full, built_full, slot_full, byte_full, elements_full, removed_full}
 
 module _ (p : Program) (known : KnowsVariables p) (s : Store) (h : AllFull p s.objects) where
