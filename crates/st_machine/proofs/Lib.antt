@@ -15,3 +15,4 @@ pub mod FollowsSearches
 pub mod FollowsControls
 pub mod Follows
 pub mod Telling
+pub mod Known

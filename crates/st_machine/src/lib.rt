@@ -2,6 +2,7 @@
 #![tactic(auto)]
 
 mod controls;
+mod facts;
 mod initializers;
 mod instructions;
 pub mod law;
@@ -19,7 +20,7 @@ mod work;
 mod works;
 
 pub use controls::Control;
-pub use loaded::{Initializer, Limits, Loaded};
+pub use loaded::Loaded;
 pub use machine::Machine;
 pub use running::{Progress, Stats};
 pub use work::{Ending, Mode, Told, Work};

@@ -1,10 +1,13 @@
-use Rattle.std.proofs.Common.{◌<◌, ◌≤◌, length, sym, ap, arith}
-use Rattle.st_code.specs.Compiled.{Compiled}
-use Rattle.st_machine.proofs.Codes.{code_in, code_out}
+use Rattle.std.proofs.Common.{ap, sym, ◌∙◌}
+use Rattle.st_code.specs.Compiled.{Compiled, seen_code}
+use Rattle.st_machine.proofs.Codes.{code-some, code-none}
 use Rattle.st_machine.proofs.loaded.Loaded.captured.Goals as goal
 
-pub returns-then-code-len-clause-captured : goal.returns-then-code-len-clause-captured
-returns-then-code-len-clause-captured c = rw (← c.self.view_is, c.deref.ensures.value) (sym (ap (λ (x : Compiled). x.captured) (code_in c.self.inside.codes.items c.args.code c.index-code.result.now (let l : c.args.code < length c.self.inside.codes.items = omega (arith, c.len.ensures, c.self.inside.codes.ok.0, c.if-code-len.true) in l) c.index-code.ensures)))
+pub returns-in-Some-clause-captured : goal.returns-in-Some-clause-captured
+returns-in-Some-clause-captured c = c.deref.ensures.value ∙ sym (ap (λ (x : Compiled). x.captured) (code-some c.args.self.now.codes c.args.code (seen_code c.in-Some.code.now) c.in-Some.ensures.code))
 
-pub returns-clause-captured : goal.returns-clause-captured
-returns-clause-captured c = rw (← c.self.view_is) (sym (ap (λ (x : Compiled). x.captured) (code_out c.self.inside.codes.items c.args.code (let l : length c.self.inside.codes.items ≤ c.args.code = omega (arith, c.len.ensures, c.self.inside.codes.ok.0, c.if-code-len.false) in l))))
+pub returns-in-Some-clause-short : goal.returns-in-Some-clause-short
+returns-in-Some-clause-short c = rw c.deref.ensures.value c.in-Some.ensures.short
+
+pub returns-in-None-clause-captured : goal.returns-in-None-clause-captured
+returns-in-None-clause-captured c = sym (ap (λ (x : Compiled). x.captured) (code-none c.args.self.now.codes c.args.code c.in-None.ensures.code))
