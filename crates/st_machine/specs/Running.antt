@@ -1,6 +1,7 @@
 -- Turns: so many instructions with what they bring until the next, what is told of them, and how a call ends.
 use Rattle.std.specs.Prelude.{◌≡◌, ℕ, zero, suc, ◌-◌, ◌<◌, Bool, true, false, List, [], ◌∷◌, ◌++◌, length, take, slice_get, Option, nat_eq, if◌then◌else◌}
 use Rattle.std.specs.Option.{option_map}
+use Rattle.st_code.specs.Texts.{Text}
 use Rattle.st_contexts.specs.declared.watch.Event.{Event}
 use Rattle.st_machine.specs.declared.work.Mode.{Mode}
 use Rattle.st_machine.specs.declared.work.Mode.TheVariants as mode
@@ -10,7 +11,7 @@ use Rattle.st_machine.specs.declared.running.Progress.{Progress}
 use Rattle.st_machine.specs.declared.running.Progress.TheVariants as progress
 use Rattle.st_machine.specs.declared.running.Stats.{Stats}
 use Rattle.st_machine.specs.Seen.{Seen}
-use Rattle.st_machine.specs.Steps.{advanced, advance_told}
+use Rattle.st_machine.specs.Steps.{advanced, advance_told, advance_written}
 
 -- ---- events
 
@@ -51,6 +52,11 @@ gone (suc steps) left s = if goes_on s.mode left then gone steps (left_after s.m
 unfoldable pub gone_told : (steps left : ℕ) → Seen → List Event
 gone_told zero left s = []
 gone_told (suc steps) left s = if goes_on s.mode left then listed (advance_told s) ++ gone_told steps (left_after s.mode left) (advanced s) else []
+
+-- what they write
+unfoldable pub gone_written : (steps left : ℕ) → Seen → Text
+gone_written zero left s = []
+gone_written (suc steps) left s = if goes_on s.mode left then advance_written s ++ gone_written steps (left_after s.mode left) (advanced s) else []
 
 -- ---- what a caller sees
 
