@@ -1,18 +1,13 @@
 -- What a loop asks of its receiver and of what it keeps, as tests.
-use Rattle.std.specs.Prelude.{ℕ, ◌^◌, ◌%◌, Bool, true, not, ◌&&◌, length, nat_eq, nat_le, nat_lt, int_lt, if◌then◌else◌}
+use Rattle.std.specs.Prelude.{ℕ, ◌%◌, Bool, true, not, ◌&&◌, length, nat_eq, nat_le, int_lt}
 use Rattle.object_heap.specs.declared.value.Value.{Value}
 use Rattle.object_heap.specs.declared.value.Value.TheVariants.{Object}
 use Rattle.object_heap.specs.Store.{Store, object_at}
-use Rattle.st_code.specs.BuiltIns.{dictionary_class, interval_class, ordered_collection_class}
+use Rattle.st_code.specs.BuiltIns.{dictionary_class, ordered_collection_class}
 use Rattle.st_code.specs.Messages.{LoopMessage}
 use Rattle.st_collections.specs.Actions.{LoopState as State}
-use Rattle.st_collections.specs.Kinds.{integer_of, size_at}
-
--- no Interval of 2^127 elements or more
-abbrev pub is_measured : Store → Value → Bool
-is_measured s (Object n) =
-    if nat_eq (object_at n s).class interval_class then nat_lt (size_at interval_class (object_at n s).slots (object_at n s).bytes) (2 ^ 127) else true
-is_measured s v = true
+use Rattle.st_collections.specs.Items.{is_measured}
+use Rattle.st_collections.specs.Kinds.{integer_of}
 
 -- an object that has room for its slots; what is no object has class 0
 abbrev pub is_roomy : Store → ℕ → Bool

@@ -12,7 +12,9 @@ mod exception_texts;
 mod exceptions;
 mod facts;
 mod indexed;
+mod law;
 mod level;
+mod loops;
 mod makers;
 mod objects;
 mod performs;
@@ -36,6 +38,8 @@ pub use collections::collection_reply;
 pub use dispatch::{row_message, send_message, super_message};
 pub use exceptions::exception_message;
 pub use facts::ProgramFacts;
+pub use law::what_is_ready_is_done;
+pub use loops::loop_reply;
 pub use objects::object_message;
 pub use reply::{Control, Passed, Reply, Written};
 pub use row::{

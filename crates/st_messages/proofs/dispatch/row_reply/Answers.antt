@@ -4,7 +4,7 @@ use Rattle.st_rules.specs.Sends.{row_action}
 use Rattle.st_messages.specs.declared.row.MessageRow.{MessageRow}
 use Rattle.st_messages.specs.Rows.{table_row}
 use Rattle.st_messages.proofs.RowLaws.{pairs_same}
-use Rattle.st_messages.proofs.dispatch.row_message.Goals as goal
+use Rattle.st_messages.proofs.dispatch.row_reply.Goals as goal
 
 pub returns-in-Pair-clause-memory : goal.returns-in-Pair-clause-memory
 returns-in-Pair-clause-memory g c =
