@@ -1,5 +1,5 @@
 -- The program of a file with its limits and code.
-use Rattle.std.specs.Prelude.{ℕ, ◌<◌, ◌^◌, max, List, [], ◌∷◌, length, map, All}
+use Rattle.std.specs.Prelude.{ℕ, ◌-◌, ◌<◌, ◌^◌, max, min, List, [], ◌∷◌, length, map, All}
 use Rattle.st_tree.specs.declared.units.Unit.{Unit}
 use Rattle.st_code.specs.declared.instruction.Code.{Code}
 use Rattle.st_code.specs.Texts.{Text, arity}
@@ -40,4 +40,4 @@ greatest_parameters (c ∷ codes) = max c.parameters (greatest_parameters codes)
 
 -- there is room for the operands of an activation, for the arguments of each selector and for those of each block
 abbrev pub room_in : Plan → ℕ
-room_in p = max (greatest_width p.codes) (max (greatest_parameters p.codes) (greatest_arity (program_in p).names))
+room_in p = max (greatest_width p.codes) (max (greatest_parameters p.codes) (min (greatest_arity (program_in p).names) (2 ^ 32 - 1)))

@@ -1,7 +1,7 @@
 -- What sends and loops ask of the store, so that each is done.
-use Rattle.std.specs.Prelude.{◌≡◌, ℕ, Bool, true, ◌&&◌, nat_le}
+use Rattle.std.specs.Prelude.{◌≡◌, Bool, true, ◌&&◌, length, nat_le}
 use Rattle.object_heap.specs.declared.value.Value.{Value}
-use Rattle.st_collections.specs.Actions.{Action, DividesByZero, Begins, Activates, Sends, Misses, Enters, Iterates, RaisesNew, LoopState as State, Visit, Applies, Compares}
+use Rattle.st_collections.specs.Actions.{Action, DividesByZero, Begins, Activates, Sends, Misses, Enters, Iterates, RaisesNew, LoopState as State, Visit, Applies, Compares, Finishes, Lacks, Charges}
 use Rattle.st_collections.specs.Loops.{first_visit, next_visit}
 use Rattle.st_loops.specs.Steps.{Seen as Step, Next, Full, Out, told_of}
 use Rattle.st_machine.specs.Seen.{Passed, Seen}
@@ -9,11 +9,17 @@ use Rattle.st_machine.specs.Plans.{program_in}
 use Rattle.st_machine.specs.Passing.{fits_in}
 use Rattle.st_machine.specs.Loops.{loop_begins, loop_goes_on}
 
+-- a loop has at most three arguments
+abbrev pub is_short : State → Bool
+is_short l = nat_le (length l.arguments) 3
+
 -- what a visit passes on has room
 abbrev pub visit_fits : Visit → Passed → Bool
-visit_fits (Applies l block args) p = fits_in args p
-visit_fits (Compares l r v) p = nat_le 1 p.room
-visit_fits _ p = true
+visit_fits (Applies l block args) p = fits_in args p && is_short l
+visit_fits (Compares l r v) p = nat_le 1 p.room && is_short l
+visit_fits (Finishes v) p = true
+visit_fits (Lacks l) p = is_short l
+visit_fits (Charges cells t v) p = true
 
 abbrev pub step_fits : Step → Passed → Bool
 step_fits (Next v) p = visit_fits v p

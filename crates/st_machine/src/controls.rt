@@ -23,7 +23,7 @@ impl<H: Heap> Machine<H> {
         Told::Nothing
     }
 
-    fn unwind_next(&mut self, target: Target, value: Value) -> Told
+    pub(crate) fn unwind_next(&mut self, target: Target, value: Value) -> Told
         ensures gone { self.new ≡ settling (Outcome.Go target value) self.old }
         ensures told { result ≡ Told.Nothing }
     {

@@ -4,6 +4,7 @@
 mod controls;
 mod initializers;
 mod instructions;
+mod facts;
 pub mod law;
 mod loaded;
 mod lookups;
@@ -12,6 +13,7 @@ mod machine;
 mod opening;
 mod operands;
 mod performing;
+mod room;
 mod running;
 mod scopes;
 mod searches;

@@ -8,6 +8,7 @@ ghost use Rattle.st_machine.specs.Opening.{stood, stood_number, stepped, has_ste
 
 use crate::loaded::Loaded;
 use crate::operands::Passed;
+use crate::room::room_of;
 use crate::work::{Mode, Telling, Told, telling};
 use object_heap::{Heap, Value};
 use st_base::OutOfMemory;
@@ -57,7 +58,7 @@ impl<H: Heap> Machine<H> {
         let width = loaded.width();
         let contexts = Contexts::new(alloc, loaded.depth_limit(), width)?;
         let variables = vec![in alloc; Value::Nil; loaded.variables()]?;
-        let passed = Passed::new(alloc, width)?;
+        let passed = Passed::new(alloc, room_of(&loaded))?;
         Ok(Machine {
             loaded,
             contexts,

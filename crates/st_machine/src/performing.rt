@@ -190,7 +190,7 @@ impl<H: Heap> Machine<H> {
     }
 
     // Goes on with what a message does at once.
-    fn perform(&mut self, reply: Reply, env: Env) -> Told
+    fn go_on(&mut self, reply: Reply, env: Env) -> Told
         ensures said { self.new ≡ said (seen (program_in self.old.plan) self.old.memory.store self.old.passed.values reply) env self.old }
         ensures told { result ≡ said_told (seen (program_in self.old.plan) self.old.memory.store self.old.passed.values reply) self.old }
     {
@@ -245,7 +245,7 @@ impl<H: Heap> Machine<H> {
         ensures written { written_text (program_in self.old.plan) self.new.memory.store result.written ≡ said_written (seen (program_in self.old.plan) self.old.memory.store self.old.passed.values reply) }
     {
         let written = written_in(reply);
-        let events = self.perform(reply, env);
+        let events = self.go_on(reply, env);
         Telling { events, written }
     }
 }

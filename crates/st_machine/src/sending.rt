@@ -32,7 +32,7 @@ impl<H: Heap> Machine<H> {
     }
 
     /// Sends a selector with the values that are passed on, and answers what that tells.
-    pub(crate) fn send(&mut self, selector: u32, receiver: Value, env: Env) -> Telling
+    pub(crate) fn send_to(&mut self, selector: u32, receiver: Value, env: Env) -> Telling
         ensures sent { self.new ≡ sent selector receiver env self.old }
         ensures told { result.events ≡ sent_told selector receiver self.old }
         ensures written { written_text (program_in self.old.plan) self.new.memory.store result.written ≡ sent_written selector receiver self.old }
@@ -46,7 +46,7 @@ impl<H: Heap> Machine<H> {
     }
 
     /// The same for a send to `super` in a body of this class or metaclass.
-    pub(crate) fn send_super(
+    pub(crate) fn send_super_to(
         &mut self,
         class: Value,
         selector: u32,
@@ -84,6 +84,6 @@ impl<H: Heap> Machine<H> {
         ensures written { written_text (program_in self.old.plan) self.new.memory.store result.written ≡ sent_written (value_in self.old) receiver self.old }
     {
         let selector = self.value_selector();
-        self.send(selector, receiver, env)
+        self.send_to(selector, receiver, env)
     }
 }
