@@ -59,9 +59,9 @@ pub record AllRan (text : Text) (events : List Event) (k k' : SinkSeen) (w w' : 
   pub whole : w'.broken ≡ None
   pub awake : w'.faults ≡ w.faults
 
--- the sink failed, or the watcher did
+-- the sink failed, and the watcher was told the first of the events; or the watcher failed
 pub data PartRan (text : Text) (events : List Event) (k k' : SinkSeen) (w w' : WatchSeen) : Type 0 where
-  stops_writing : GainsPrefix k.written k'.written text → Rose k.faults k'.faults → (count : ℕ) → w'.seen ≡ all_seen (take count events) w.seen → w'.broken ≡ None → w'.faults ≡ w.faults → PartRan text events k k' w w'
+  stops_writing : GainsPrefix k.written k'.written text → Rose k.faults k'.faults → (first rest : List Event) → events ≡ first ++ rest → w'.seen ≡ all_seen first w.seen → w'.broken ≡ None → w'.faults ≡ w.faults → PartRan text events k k' w w'
   stops_telling : GainsPrefix k.written k'.written text → k'.faults ≡ k.faults → BreaksOff events w.seen w'.seen w'.broken → Rose w.faults w'.faults → PartRan text events k k' w w'
 
 abbrev pub Ran : {T E : Type 0} → Text → List Event → SinkSeen → SinkSeen → WatchSeen → WatchSeen → Result T E → Type 0

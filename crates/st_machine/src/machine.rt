@@ -84,7 +84,7 @@ impl<H: Heap> Machine<H> {
     pub fn advance(&mut self) -> Telling
         ensures stepped { self.new ≡ advanced self.old }
         ensures told { result.events ≡ advance_told self.old }
-        ensures written { written_text (program_in self.old.plan) self.new.memory.store result.written ≡ advance_written self.old }
+        ensures written { written_text (program_in self.new.plan) self.new.memory.store result.written ≡ advance_written self.old }
     {
         match self.mode {
             Mode::Run => {

@@ -35,7 +35,7 @@ impl<H: Heap> Machine<H> {
     pub(crate) fn send_to(&mut self, selector: u32, receiver: Value, env: Env) -> Telling
         ensures sent { self.new ≡ sent selector receiver env self.old }
         ensures told { result.events ≡ sent_told selector receiver self.old }
-        ensures written { written_text (program_in self.old.plan) self.new.memory.store result.written ≡ sent_written selector receiver self.old }
+        ensures written { written_text (program_in self.new.plan) self.new.memory.store result.written ≡ sent_written selector receiver self.old }
     {
         if !self.step() {
             return self.stop_steps();
@@ -55,7 +55,7 @@ impl<H: Heap> Machine<H> {
     ) -> Telling
         ensures sent { self.new ≡ super_sent class selector receiver env self.old }
         ensures told { result.events ≡ super_sent_told class selector receiver self.old }
-        ensures written { written_text (program_in self.old.plan) self.new.memory.store result.written ≡ super_sent_written class selector receiver self.old }
+        ensures written { written_text (program_in self.new.plan) self.new.memory.store result.written ≡ super_sent_written class selector receiver self.old }
     {
         if !self.step() {
             return self.stop_steps();
@@ -81,7 +81,7 @@ impl<H: Heap> Machine<H> {
     pub(crate) fn send_value(&mut self, receiver: Value, env: Env) -> Telling
         ensures sent { self.new ≡ value_sent receiver env self.old }
         ensures told { result.events ≡ sent_told (value_in self.old) receiver self.old }
-        ensures written { written_text (program_in self.old.plan) self.new.memory.store result.written ≡ sent_written (value_in self.old) receiver self.old }
+        ensures written { written_text (program_in self.new.plan) self.new.memory.store result.written ≡ sent_written (value_in self.old) receiver self.old }
     {
         let selector = self.value_selector();
         self.send_to(selector, receiver, env)

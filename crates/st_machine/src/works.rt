@@ -46,7 +46,7 @@ impl<H: Heap> Machine<H> {
     pub(crate) fn begin(&mut self, work: Work) -> Telling
         ensures begun { self.new ≡ begun work self.old }
         ensures told { result.events ≡ begun_told work self.old }
-        ensures written { written_text (program_in self.old.plan) self.new.memory.store result.written ≡ begun_written work self.old }
+        ensures written { written_text (program_in self.new.plan) self.new.memory.store result.written ≡ begun_written work self.old }
     {
         match work {
             Work::Apply { receiver, env } => telling(self.begin_apply(receiver, env)),
