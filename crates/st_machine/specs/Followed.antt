@@ -16,7 +16,7 @@ use Rattle.st_contexts.specs.Stack.{Standing}
 use Rattle.st_loops.specs.States.{state_of}
 use Rattle.st_rules.specs.Events.{Event}
 use Rattle.st_rules.specs.Flat.{FlatBody, code_at}
-use Rattle.st_rules.specs.Turns.{Top, top_iter}
+use Rattle.st_rules.specs.Turns.{Top, top_iter, instructions}
 use Rattle.st_machine.specs.declared.work.Mode.{Mode}
 use Rattle.st_machine.specs.declared.work.Mode.TheVariants as mode
 use Rattle.st_machine.specs.declared.work.Work.{Work}
@@ -134,9 +134,30 @@ pub record Ready (s : Seen) : Type 0 where
   pub next : CanGoOn s.mode s
   pub sound : IsSound s.mode s
 
+-- a step makes a small step at least, but for the opening of the next initializer, which belongs to the small step before it; works that need the program's messages wait
+abbrev pub WorkMoves : Work → ℕ → Type 0
+WorkMoves (work.SendValue receiver env) count = Unit {0}
+WorkMoves (work.SendTo selector receiver env) count = Unit {0}
+WorkMoves (work.SuperTo class selector receiver env) count = Unit {0}
+WorkMoves (work.Visit n l v env) count = Unit {0}
+WorkMoves _ count = 0 < count
+
+abbrev pub Moves : Mode → ℕ → Type 0
+Moves mode.Next count = Unit {0}
+Moves (mode.Ended e) count = Unit {0}
+Moves (mode.Begin w) count = WorkMoves w count
+Moves _ count = 0 < count
+
+-- how many instructions it runs
+abbrev pub runs_in : Mode → ℕ
+runs_in mode.Run = 1
+runs_in _ = 0
+
 -- so many small steps of the flat machine
 pub record Leads (s : Seen) (from to : Top FlatBody) : Type 0 where
   pub count : ℕ
+  pub moves : Moves s.mode count
+  pub counted : instructions (flat_of s) (program_in s.plan) count from ≡ runs_in s.mode
   pub leads : top_iter (flat_of s) (program_in s.plan) count from ≡ to
 
 -- a step of a machine that is ready is some small steps of the flat machine, writes what these write, and tells the events that they tell
