@@ -21,9 +21,9 @@ use Rattle.st_machine.specs.Seen.{Plan, Passed, Seen}
 use Rattle.st_machine.specs.Plans.{program_in}
 use Rattle.st_machine.specs.Passing.{fits_in}
 use Rattle.st_machine.specs.Loops.{loop_kept, visit_made, loop_stepped}
-use Rattle.st_machine.specs.Sound.{is_short, visit_fits, step_fits}
 use Rattle.st_machine.specs.Meaning.{top_of, state_of, acts_of, env_of, target_in, behind}
 use Rattle.st_machine.proofs.Links.{env_skip}
+use Rattle.st_machine.proofs.SmallVisits.{is_short, step_fits}
 use Rattle.st_machine.proofs.LoopStates.{both, loop_back}
 
 module _ (plan : Plan) (next depth width : ℕ) (vars : List Value) (passed : Passed) (steps deepest inits instrs : ℕ) (tr : Text) (ev : List Event) (acts : List Standing) (n : ℕ) (env : Env) (ops : List Value) (m : Mode) (below : env.0 < n) where

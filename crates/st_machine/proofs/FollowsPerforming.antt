@@ -1,5 +1,5 @@
 -- What a message does at once is what the flat machine makes of its action.
-use Rattle.std.proofs.Common.{◌≡◌, ℕ, suc, zero, ◌+◌, ◌-◌, ◌<◌, ◌^◌, max, List, [], ◌∷◌, ◌++◌, length, nat_le, Bool, true, false, if◌then◌else◌, Option, Some, None, refl, ap, sym, ◌∙◌}
+use Rattle.std.proofs.Common.{◌≡◌, ℕ, suc, zero, ◌+◌, ◌-◌, ◌<◌, ◌≤◌, ◌^◌, max, List, [], ◌∷◌, ◌++◌, length, nat_le, Bool, true, false, if◌then◌else◌, Option, Some, None, le-leb, leb-true, refl, ap, sym, ◌∙◌, arith}
 use Rattle.std.proofs.lemmas.List.{append-nil}
 use Rattle.object_heap.specs.declared.value.Value.{Value}
 use Rattle.object_heap.specs.declared.value.Value.TheVariants.{Object}
@@ -16,7 +16,7 @@ use Rattle.st_contexts.specs.declared.activation.Activation.{Activation}
 use Rattle.st_contexts.specs.declared.activation.Activation.TheVariants as act
 use Rattle.st_contexts.specs.declared.activation.Env.{Env}
 use Rattle.st_contexts.specs.Stack.{Standing}
-use Rattle.st_loops.specs.Steps.{told_of}
+use Rattle.st_loops.specs.Tests.{may_begin}
 use Rattle.st_rules.specs.Events.{Event}
 use Rattle.st_rules.specs.State.{State, CellLimit, stood, used, with_store}
 use Rattle.st_rules.specs.Ends.{charged, trouble_text, with_arguments, with_message}
@@ -30,10 +30,11 @@ use Rattle.st_machine.specs.Plans.{program_in}
 use Rattle.st_machine.specs.Signals.{text_in, if_object, exception_made, slots_put}
 use Rattle.st_machine.specs.Loops.{loop_begins, loop_kept}
 use Rattle.st_machine.specs.Performing.{message_slots, message_sent, performed, performed_told, performed_written}
-use Rattle.st_machine.specs.Sound.{is_fit, step_fits}
+use Rattle.st_machine.specs.Sound.{is_fit}
 use Rattle.st_machine.specs.Meaning.{top_of, state_of, acts_of, env_of, events_of, target_in, behind}
 use Rattle.st_machine.specs.Followed.{Falling}
 use Rattle.st_machine.proofs.Links.{other_number, env_skip, env_here}
+use Rattle.st_machine.proofs.SmallVisits.{Small, first_visit_small, small_fits}
 use Rattle.st_machine.proofs.LoopStates.{both}
 use Rattle.st_machine.proofs.Slots.{filled_object}
 use Rattle.st_machine.proofs.FollowsOpening.{marks_length}
@@ -70,7 +71,7 @@ module _ (plan : Plan) (next depth width : ℕ) (vars : List Value) (passed : Pa
   abbrev Performs : Action → Memory → Type 0
   Performs a mem = Comes plan width (goes (perform_act (flat p plan.codes width) p a (env_of acts env) (acts_of acts) (state mem))) (top_of (tr ++ performed_written a (here mem)) (ev ++ events_of (performed_told a (here mem))) (performed a env (here mem)))
 
-  module _ (same_depth : depth ≡ p.depth_limit) (numbers : next < 2 ^ 64 - 1) (below : env.0 < next) where
+  module _ (same_depth : depth ≡ p.depth_limit) (numbers : next < 2 ^ 64 - 1) (below : env.0 < next) (room : 2 ≤ passed.room) where
     place_same : (b : Bool) → nat_le (length acts + 1) depth ≡ b → nat_le (length acts + 1) p.depth_limit ≡ b
     place_same b e = ap (λ d. nat_le (length acts + 1) d) (sym same_depth) ∙ e
 
@@ -81,8 +82,8 @@ module _ (plan : Plan) (next depth width : ℕ) (vars : List Value) (passed : Pa
 
     makes_by : (n : ℕ) (t : Store) (v : Value) (mem : Memory) (b : Bool) → nat_le (mem.used + n) mem.limit ≡ b → nat_le (mem.used + n) p.cell_limit ≡ b → Performs (Makes n t v) mem
     unfolding used
-    makes_by n t v mem true c c' = record { count = 0; comes = rw (c, c', append-nil tr, append-nil ev) refl }
-    makes_by n t v mem false c c' = record { count = 0; comes = rw (c, c', append-nil tr, append-nil ev) refl }
+    makes_by n t v mem true c c' = record { count = 0; counted = refl; comes = rw (c, c', append-nil tr, append-nil ev) refl }
+    makes_by n t v mem false c c' = record { count = 0; counted = refl; comes = rw (c, c', append-nil tr, append-nil ev) refl }
 
     -- ---- a message that nothing answers
 
@@ -90,26 +91,26 @@ module _ (plan : Plan) (next depth width : ℕ) (vars : List Value) (passed : Pa
         → goes (charged (used p 3 (state mem)) (stopped CellLimit (acts_of acts) (state mem)) (λ st. Begin (SendTo (sends_not_understood p) r (next_object st.store ∷ []) (env_of acts env)) (acts_of acts) (with_store st (with_message selector (Object array) st.store))))
         ≡ top_of tr ev (message_sent (if_object 2 mem) r env (with_memory (here mem) (exception_made message_class 2 (message_slots selector array) mem)))
     unfolding used with_message
-    message_by selector r array mem true room c c' =
+    message_by selector r array mem true one c c' =
         let made : exception_made message_class 2 (message_slots selector array) mem ≡ with_object message_class (message_slots selector array) mem = object_memory message_class (message_slots selector array) mem c in
-        rw (made, c, c', room) refl
-    message_by selector r array mem false room c c' =
+        rw (made, c, c', one) refl
+    message_by selector r array mem false one c c' =
         let made : exception_made message_class 2 (message_slots selector array) mem ≡ mem = no_object_memory message_class (message_slots selector array) mem c in
         rw (made, c, c') refl
 
     misses_by : (selector : ℕ) (r : Value) (args : List Value) (mem : Memory) (b : Bool) → mem.limit ≡ p.cell_limit → nat_le 1 passed.room ≡ true → nat_le (mem.used + object_charge (length args) 0) mem.limit ≡ b → nat_le (mem.used + (1 + length args)) p.cell_limit ≡ b → Performs (Misses selector r args) mem
     unfolding used with_arguments
-    misses_by selector r args mem true e room c c' =
+    misses_by selector r args mem true e one c c' =
         let made : exception_made array_class (length args) args mem ≡ with_object array_class args mem = object_memory array_class args mem c in
         let then = with_object array_class args mem in
-        record { count = 0; comes = rw (made, c, c', append-nil tr, append-nil ev) (message_by selector r (length mem.store.objects) then (nat_le (then.used + 3) then.limit) room refl (cells_same then 3 (nat_le (then.used + 3) then.limit) e refl)) }
-    misses_by selector r args mem false e room c c' =
+        record { count = 0; counted = refl; comes = rw (made, c, c', append-nil tr, append-nil ev) (message_by selector r (length mem.store.objects) then (nat_le (then.used + 3) then.limit) one refl (cells_same then 3 (nat_le (then.used + 3) then.limit) e refl)) }
+    misses_by selector r args mem false e one c c' =
         let made : exception_made array_class (length args) args mem ≡ mem = no_object_memory array_class args mem c in
-        record { count = 0; comes = rw (made, c, c', append-nil tr, append-nil ev) refl }
+        record { count = 0; counted = refl; comes = rw (made, c, c', append-nil tr, append-nil ev) refl }
 
     misses : (selector : ℕ) (r : Value) (args : List Value) (mem : Memory) → mem.limit ≡ p.cell_limit → nat_le 1 passed.room ≡ true → Performs (Misses selector r args) mem
-    misses selector r args mem e room =
-        misses_by selector r args mem (nat_le (mem.used + object_charge (length args) 0) mem.limit) e room refl
+    misses selector r args mem e one =
+        misses_by selector r args mem (nat_le (mem.used + object_charge (length args) 0) mem.limit) e one refl
         (ap (λ n. nat_le (mem.used + n) p.cell_limit) (sym (charge_same (length args))) ∙ cells_same mem (object_charge (length args) 0) (nat_le (mem.used + object_charge (length args) 0) mem.limit) e refl)
 
     -- ---- activations that stand
@@ -119,54 +120,55 @@ module _ (plan : Plan) (next depth width : ℕ) (vars : List Value) (passed : Pa
 
     guards_by : (r sel h : Value) (mem : Memory) (b : Bool) → nat_le (length acts + 1) depth ≡ b → nat_le (length acts + 1) p.depth_limit ≡ b → Performs (Guards r sel h) mem
     unfolding stood
-    guards_by r sel h mem true d d' = record { count = 1; comes = rw (other_number next 18446744073709551615 numbers, marks_length acts, d, d', env_here next r sel h env [] acts below, append-nil tr) refl }
-    guards_by r sel h mem false d d' = record { count = 0; comes = rw (other_number next 18446744073709551615 numbers, marks_length acts, d, d', append-nil tr, append-nil ev) refl }
+    guards_by r sel h mem true d d' = record { count = 1; counted = rw (marks_length acts, d') refl; comes = rw (other_number next 18446744073709551615 numbers, marks_length acts, d, d', env_here next r sel h env [] acts below, append-nil tr) refl }
+    guards_by r sel h mem false d d' = record { count = 0; counted = refl; comes = rw (other_number next 18446744073709551615 numbers, marks_length acts, d, d', append-nil tr, append-nil ev) refl }
 
     ensures_by : (r block : Value) (mem : Memory) (b : Bool) → nat_le (length acts + 1) depth ≡ b → nat_le (length acts + 1) p.depth_limit ≡ b → Performs (Ensures r block) mem
     unfolding stood
-    ensures_by r block mem true d d' = record { count = 0; comes = rw (other_number next 18446744073709551615 numbers, marks_length acts, d, d', env_skip (stand (act.EnsureOn block)) acts env below, append-nil tr) refl }
-    ensures_by r block mem false d d' = record { count = 0; comes = rw (other_number next 18446744073709551615 numbers, marks_length acts, d, d', append-nil tr, append-nil ev) refl }
+    ensures_by r block mem true d d' = record { count = 0; counted = refl; comes = rw (other_number next 18446744073709551615 numbers, marks_length acts, d, d', env_skip (stand (act.EnsureOn block)) acts env below, append-nil tr) refl }
+    ensures_by r block mem false d d' = record { count = 0; counted = refl; comes = rw (other_number next 18446744073709551615 numbers, marks_length acts, d, d', append-nil tr, append-nil ev) refl }
 
     curtails_by : (r block : Value) (mem : Memory) (b : Bool) → nat_le (length acts + 1) depth ≡ b → nat_le (length acts + 1) p.depth_limit ≡ b → Performs (Curtails r block) mem
     unfolding stood
-    curtails_by r block mem true d d' = record { count = 0; comes = rw (other_number next 18446744073709551615 numbers, marks_length acts, d, d', env_skip (stand (act.CurtailOn block)) acts env below, append-nil tr) refl }
-    curtails_by r block mem false d d' = record { count = 0; comes = rw (other_number next 18446744073709551615 numbers, marks_length acts, d, d', append-nil tr, append-nil ev) refl }
+    curtails_by r block mem true d d' = record { count = 0; counted = refl; comes = rw (other_number next 18446744073709551615 numbers, marks_length acts, d, d', env_skip (stand (act.CurtailOn block)) acts env below, append-nil tr) refl }
+    curtails_by r block mem false d d' = record { count = 0; counted = refl; comes = rw (other_number next 18446744073709551615 numbers, marks_length acts, d, d', append-nil tr, append-nil ev) refl }
 
-    iterates_by : (l : LoopState) (mem : Memory) (b : Bool) → mem.limit ≡ p.cell_limit → loop_begins mem.store l ≡ true → step_fits (told_of (first_visit p mem.store l) mem) passed ≡ true → nat_le (length acts + 1) depth ≡ b → nat_le (length acts + 1) p.depth_limit ≡ b → Performs (Iterates l) mem
+    short : (l : LoopState) (mem : Memory) → loop_begins mem.store l ≡ true → length l.arguments ≤ 3
+    short l mem begins = let few : nat_le (length l.arguments) 3 ≡ true = (both (nat_le (length l.arguments) 3) (may_begin mem.store l.message l.receiver) begins).0 in leb-true (length l.arguments) 3 few
+
+    iterates_by : (l : LoopState) (mem : Memory) (b : Bool) → mem.limit ≡ p.cell_limit → loop_begins mem.store l ≡ true → nat_le (length acts + 1) depth ≡ b → nat_le (length acts + 1) p.depth_limit ≡ b → Performs (Iterates l) mem
     unfolding stood
-    iterates_by l mem true e begins fits d d' =
-        record { count = 1; comes = rw (begins, other_number next 18446744073709551615 numbers, marks_length acts, d, d', append-nil tr, append-nil ev) (visits plan (next + 1) depth width vars passed steps (max deepest (length acts + 1)) inits instrs tr ev acts next env [] m below (first_visit p mem.store l) (act.Loop (loop_kept l)) mem e fits) }
-    iterates_by l mem false e begins fits d d' = record { count = 0; comes = rw (begins, other_number next 18446744073709551615 numbers, marks_length acts, d, d', append-nil tr, append-nil ev) refl }
+    iterates_by l mem true e begins d d' =
+        record { count = 1; counted = rw (marks_length acts, d') refl; comes = rw (begins, other_number next 18446744073709551615 numbers, marks_length acts, d, d', append-nil tr, append-nil ev) (visits plan (next + 1) depth width vars passed steps (max deepest (length acts + 1)) inits instrs tr ev acts next env [] m below (first_visit p mem.store l) (act.Loop (loop_kept l)) mem e (small_fits (first_visit p mem.store l) mem passed (first_visit_small p mem.store l (short l mem begins)).small room)) }
+    iterates_by l mem false e begins d d' = record { count = 0; counted = refl; comes = rw (begins, other_number next 18446744073709551615 numbers, marks_length acts, d, d', append-nil tr, append-nil ev) refl }
 
-    iterates : (l : LoopState) (mem : Memory) → mem.limit ≡ p.cell_limit → is_fit (Iterates l) (here mem) ≡ true → Performs (Iterates l) mem
-    iterates l mem e fit =
-        let parts = both (loop_begins mem.store l) (step_fits (told_of (first_visit p mem.store l) mem) passed) fit in
-        iterates_by l mem (nat_le (length acts + 1) depth) e parts.0 parts.1 refl (place_same (nat_le (length acts + 1) depth) refl)
+    iterates : (l : LoopState) (mem : Memory) → mem.limit ≡ p.cell_limit → loop_begins mem.store l ≡ true → Performs (Iterates l) mem
+    iterates l mem e begins = iterates_by l mem (nat_le (length acts + 1) depth) e begins refl (place_same (nat_le (length acts + 1) depth) refl)
 
-    divides : (dividend : Value) (mem : Memory) → plan.troubles ≡ p.trouble_place → nat_le 2 passed.room ≡ true → Performs (DividesByZero dividend) mem
-    divides dividend mem same room =
+    divides : (dividend : Value) (mem : Memory) → plan.troubles ≡ p.trouble_place → Performs (DividesByZero dividend) mem
+    divides dividend mem same =
         let text : trouble_text p ZeroDivide ≡ text_in plan ZeroDivide = ap (λ n. Object (n + place_of ZeroDivide)) (sym same) in
-        record { count = 0; comes = rw (room, append-nil tr, append-nil ev) (ap (λ v. goes (Begin (RaiseNew zero_divide_class (v ∷ dividend ∷ []) (env_of acts env)) (acts_of acts) (state mem))) text) }
+        record { count = 0; counted = refl; comes = rw (le-leb 2 passed.room room, append-nil tr, append-nil ev) (ap (λ v. goes (Begin (RaiseNew zero_divide_class (v ∷ dividend ∷ []) (env_of acts env)) (acts_of acts) (state mem))) text) }
 
     pub performs : (a : Action) (mem : Memory) → mem.limit ≡ p.cell_limit → plan.troubles ≡ p.trouble_place → Falling next acts → is_fit a (here mem) ≡ true → Performs a mem
-    performs (Gives v) mem e same falling fit = record { count = 0; comes = rw (append-nil tr, append-nil ev) refl }
-    performs (Changes t v) mem e same falling fit = record { count = 0; comes = rw (append-nil tr, append-nil ev) refl }
+    performs (Gives v) mem e same falling fit = record { count = 0; counted = refl; comes = rw (append-nil tr, append-nil ev) refl }
+    performs (Changes t v) mem e same falling fit = record { count = 0; counted = refl; comes = rw (append-nil tr, append-nil ev) refl }
     performs (Makes n t v) mem e same falling fit = makes_by n t v mem (nat_le (mem.used + n) mem.limit) refl (cells_same mem n (nat_le (mem.used + n) mem.limit) e refl)
-    performs (Fails t) mem e same falling fit = record { count = 0; comes = rw (append-nil tr, append-nil ev) refl }
-    performs PassesIntegers mem e same falling fit = record { count = 0; comes = rw (append-nil tr, append-nil ev) refl }
-    performs (DividesByZero dividend) mem e same falling fit = divides dividend mem same fit
-    performs (Writes text v) mem e same falling fit = record { count = 0; comes = rw (append-nil ev) refl }
-    performs (Begins v args) mem e same falling fit = record { count = 0; comes = rw (fit, append-nil tr, append-nil ev) refl }
-    performs (Activates c args) mem e same falling fit = record { count = 0; comes = rw (fit, append-nil tr, append-nil ev) refl }
-    performs (Sends selector r args) mem e same falling fit = record { count = 0; comes = rw (fit, append-nil tr, append-nil ev) refl }
-    performs (Misses selector r args) mem e same falling fit = misses selector r args mem e fit
-    performs (Enters code r args) mem e same falling fit = record { count = 0; comes = rw (fit, append-nil tr, append-nil ev) refl }
+    performs (Fails t) mem e same falling fit = record { count = 0; counted = refl; comes = rw (append-nil tr, append-nil ev) refl }
+    performs PassesIntegers mem e same falling fit = record { count = 0; counted = refl; comes = rw (append-nil tr, append-nil ev) refl }
+    performs (DividesByZero dividend) mem e same falling fit = divides dividend mem same
+    performs (Writes text v) mem e same falling fit = record { count = 0; counted = refl; comes = rw (append-nil ev) refl }
+    performs (Begins v args) mem e same falling fit = record { count = 0; counted = refl; comes = rw (fit, append-nil tr, append-nil ev) refl }
+    performs (Activates c args) mem e same falling fit = record { count = 0; counted = refl; comes = rw (fit, append-nil tr, append-nil ev) refl }
+    performs (Sends selector r args) mem e same falling fit = record { count = 0; counted = refl; comes = rw (fit, append-nil tr, append-nil ev) refl }
+    performs (Misses selector r args) mem e same falling fit = misses selector r args mem e (le-leb 1 passed.room (omega (arith, room)))
+    performs (Enters code r args) mem e same falling fit = record { count = 0; counted = refl; comes = rw (fit, append-nil tr, append-nil ev) refl }
     performs (Guards r sel h) mem e same falling fit = guards_by r sel h mem (nat_le (length acts + 1) depth) refl (place_same (nat_le (length acts + 1) depth) refl)
     performs (Ensures r block) mem e same falling fit = ensures_by r block mem (nat_le (length acts + 1) depth) refl (place_same (nat_le (length acts + 1) depth) refl)
     performs (Curtails r block) mem e same falling fit = curtails_by r block mem (nat_le (length acts + 1) depth) refl (place_same (nat_le (length acts + 1) depth) refl)
     performs (Iterates l) mem e same falling fit = iterates l mem e fit
-    performs (Raises t x) mem e same falling fit = record { count = 0; comes = rw (append-nil tr, append-nil ev) refl }
-    performs (RaisesNew class slots) mem e same falling fit = record { count = 0; comes = rw (fit, append-nil tr, append-nil ev) refl }
+    performs (Raises t x) mem e same falling fit = record { count = 0; counted = refl; comes = rw (append-nil tr, append-nil ev) refl }
+    performs (RaisesNew class slots) mem e same falling fit = record { count = 0; counted = refl; comes = rw (fit, append-nil tr, append-nil ev) refl }
     performs (Controls c x v) mem e same falling fit =
-        record { count = 0; comes = rw (append-nil tr) (controls plan next depth width vars passed steps deepest inits instrs tr ev acts mem m v env c x falling) }
-    performs (Terminates v) mem e same falling fit = record { count = 0; comes = rw (append-nil tr, append-nil ev) refl }
+        record { count = 0; counted = refl; comes = rw (append-nil tr) (controls plan next depth width vars passed steps deepest inits instrs tr ev acts mem m v env c x falling) }
+    performs (Terminates v) mem e same falling fit = record { count = 0; counted = refl; comes = rw (append-nil tr, append-nil ev) refl }

@@ -1,5 +1,5 @@
 -- A loop that an activation keeps is the state of the rules that it stands for.
-use Rattle.std.proofs.Common.{◌≡◌, ◌&&◌, List, [], ◌∷◌, length, nat_le, Bool, true, false, refl, arith}
+use Rattle.std.proofs.Common.{◌≡◌, ◌≤◌, ◌&&◌, List, [], ◌∷◌, length, nat_le, Bool, true, false, refl, arith}
 use Rattle.std.proofs.lemmas.Bool.Decides.{nat_tests}
 use Rattle.object_heap.specs.declared.value.Value.{Value}
 use Rattle.st_code.specs.Messages.{LoopMessage}
@@ -11,7 +11,7 @@ use Rattle.st_loops.specs.Kinds.{message_of}
 use Rattle.st_loops.specs.States.{state_of, values_of}
 use Rattle.st_machine.specs.Loops.{kind_of, arguments_kept, loop_kept}
 use Rattle.st_machine.specs.Meaning.{loop_of}
-use Rattle.st_machine.specs.Sound.{is_short}
+use Rattle.st_machine.proofs.SmallVisits.{is_short}
 
 pub both : (a b : Bool) → (a && b) ≡ true → (a ≡ true) × (b ≡ true)
 both true b e = (refl, e)
@@ -113,3 +113,9 @@ kept_same l = rw (kind_back l.kind, arguments_back l.arguments) refl
 pub loop_back : (l : State) → is_short l ≡ true → loop_of (loop_kept l) ≡ l
 unfolding loop_kept loop_of
 loop_back l e = rw (message_back l.message, values_back l.arguments e) refl
+
+pub values_few : (a : Arguments) → length (values_of a) ≤ 3
+values_few Arguments.None = omega arith
+values_few (Arguments.One u) = omega arith
+values_few (Arguments.Two u v) = omega arith
+values_few (Arguments.Three u v w) = omega arith

@@ -43,6 +43,9 @@ unfolding gone_told
 told_steps zero left s l e = let none : ⊥ = omega (arith, l) in absurd none
 told_steps (suc n) left s l e = let back : suc n - 1 ≡ n = omega arith in rw (e, back) refl
 
+pub goes_further : (n left : ℕ) (s : Seen) (left' : ℕ) (s' end : Seen) → 0 < n → goes_on s.mode left ≡ true → left' ≡ left_after s.mode left → s' ≡ advanced s → gone n left s ≡ end → gone (n - 1) left' s' ≡ end
+goes_further n left s left' s' end l e more next h = rw (more, next) (sym (gone_steps n left s l e) ∙ h)
+
 -- ---- what was told
 
 all_none : (seen : Option (List Event)) → seen ≡ all_seen [] seen
@@ -106,24 +109,6 @@ going_breaks total more rest before seen after broken g b =
       behind = b.behind ∙ rw g.split (sym (get_behind g.prior (more ++ rest) b.count ∙ get_first more rest b.count b.within));
     }
 
--- ---- one small step of a loop
-
-module _ (n left : ℕ) (s : Seen) where
-  pub stands_on : (left' : ℕ) (s' end : Seen) → 0 < n → goes_on s.mode left ≡ true → left' ≡ left_after s.mode left → s' ≡ advanced s → gone n left s ≡ end → gone (n - 1) left' s' ≡ end
-  stands_on left' s' end l e more next h = rw (more, next) (sym (gone_steps n left s l e) ∙ h)
-
-  pub tells_on : (left' : ℕ) (s' : Seen) (total : List Event) (before seen after : Option (List Event)) → 0 < n → goes_on s.mode left ≡ true → left' ≡ left_after s.mode left → s' ≡ advanced s → Going total (gone_told n left s) before seen → after ≡ all_seen (listed (advance_told s)) seen → Going total (gone_told (n - 1) left' s') before after
-  tells_on left' s' total before seen after l e more next g h = rw (more, next) (going_more total (listed (advance_told s)) (gone_told (n - 1) (left_after s.mode left) (advanced s)) before seen after (rw (told_steps n left s l e) at g) h)
-
-  pub breaks_off : (total : List Event) (before seen after : Option (List Event)) (broken : Option Event) → 0 < n → goes_on s.mode left ≡ true → Going total (gone_told n left s) before seen → BreaksOff (listed (advance_told s)) seen after broken → BreaksOff total before after broken
-  breaks_off total before seen after broken l e g b = going_breaks total (listed (advance_told s)) (gone_told (n - 1) (left_after s.mode left) (advanced s)) before seen after broken (rw (told_steps n left s l e) at g) b
-
-  pub told_all : (total : List Event) (before seen : Option (List Event)) → goes_on s.mode left ≡ false → Going total (gone_told n left s) before seen → seen ≡ all_seen total before
-  told_all total before seen e g = going_last total before seen (rw (told_stops n left s e) at g)
-
-  pub told_most : (total : List Event) (before seen : Option (List Event)) → n ≡ 0 → Going total (gone_told n left s) before seen → seen ≡ all_seen total before
-  told_most total before seen e g = going_last total before seen (rw (told_ends n left s e) at g)
-
 pub on_err : {T E : Type 0} (result : Result T E) (P : Type 0) → P → OnErr result P
 on_err (Ok x) P holds = tt
 on_err (Err e) P holds = holds
@@ -175,9 +160,6 @@ module _ (text : Text) (events : List Event) (k k1 k2 : SinkSeen) (w w1 w2 : Wat
         awake = a.awake ∙ r.awake;
       }
 
-  pub runs_out : Running text [] events [] k k1 w w1 → AllRan text events k k1 w w1
-  runs_out r = record { wrote = wrote_last text k.written k1.written r.wrote; sound = r.sound; told = going_last events w.seen w1.seen r.going; whole = r.whole; awake = r.awake }
-
   pub part_on : (more rest : Text) (these left : List Event) → Running text (more ++ rest) events (these ++ left) k k1 w w1 → PartRan more these k1 k2 w1 w2 → PartRan text events k k2 w w2
   part_on more rest these left r (stops_writing part rose first behind split told broken awake) =
       stops_writing (wrote_part text more rest k.written k1.written k2.written r.wrote part) (rw r.sound at rose) (r.going.prior ++ first) (behind ++ left)
@@ -185,6 +167,9 @@ module _ (text : Text) (events : List Event) (k k1 k2 : SinkSeen) (w w1 w2 : Wat
       (told ∙ ap (all_seen first) r.going.told ∙ all_more r.going.prior first w.seen) broken (awake ∙ r.awake)
   part_on more rest these left r (stops_telling part sound breaks rose) =
       stops_telling (wrote_part text more rest k.written k1.written k2.written r.wrote part) (sound ∙ r.sound) (going_breaks events these left w.seen w1.seen w2.seen w2.broken r.going breaks) (rw r.awake at rose)
+
+pub runs_out : (text : Text) (events : List Event) (k k1 : SinkSeen) (w w1 : WatchSeen) → Running text [] events [] k k1 w w1 → AllRan text events k k1 w w1
+runs_out text events k k1 w w1 r = record { wrote = wrote_last text k.written k1.written r.wrote; sound = r.sound; told = going_last events w.seen w1.seen r.going; whole = r.whole; awake = r.awake }
 
 pub runs_first : (text : Text) (events : List Event) (k : SinkSeen) (w : WatchSeen) → w.broken ≡ None → Running text text events events k k w w
 runs_first text events k w whole = record { wrote = wrote_first text text k.written refl; going = going_first events w.seen; sound = refl; whole = whole; awake = refl }
@@ -206,11 +191,12 @@ module _ (n left : ℕ) (s : Seen) (text : Text) (events : List Event) (k k1 k2 
   step_breaks l e r a =
       part_on text events k k1 k2 w w1 w2 (advance_written s) (gone_written (n - 1) (left_after s.mode left) (advanced s)) (listed (advance_told s)) (gone_told (n - 1) (left_after s.mode left) (advanced s)) (split_so l e r) a
 
-  pub stops_here : goes_on s.mode left ≡ false → So → AllRan text events k k1 w w1
-  stops_here e r = runs_out text events k k1 k1 w w1 w1 (rw (writes_stops n left s e, told_stops n left s e) at r)
+module _ (n left : ℕ) (s : Seen) (text : Text) (events : List Event) (k k1 : SinkSeen) (w w1 : WatchSeen) where
+  pub stops_here : goes_on s.mode left ≡ false → Running text (gone_written n left s) events (gone_told n left s) k k1 w w1 → AllRan text events k k1 w w1
+  stops_here e r = runs_out text events k k1 w w1 (rw (writes_stops n left s e, told_stops n left s e) at r)
 
-  pub ends_here : n ≡ 0 → So → AllRan text events k k1 w w1
-  ends_here e r = runs_out text events k k1 k1 w w1 w1 (rw (writes_ends n left s e, told_ends n left s e) at r)
+  pub ends_here : n ≡ 0 → Running text (gone_written n left s) events (gone_told n left s) k k1 w w1 → AllRan text events k k1 w w1
+  ends_here e r = runs_out text events k k1 w w1 (rw (writes_ends n left s e, told_ends n left s e) at r)
 
 -- ---- a run of whose events nobody is told
 

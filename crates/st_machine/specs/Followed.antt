@@ -1,6 +1,5 @@
 -- The law of the machine: what it does is what the flat machine does.
-use Rattle.std.specs.Prelude.{◌≡◌, ℕ, ◌-◌, ◌<◌, ◌≤◌, ◌^◌, Bool, true, List, [], ◌∷◌, ◌++◌, map, slice_get, Option, Some, None}
-use Rattle.object_heap.specs.declared.value.Value.{Value}
+use Rattle.std.specs.Prelude.{◌≡◌, ℕ, ◌-◌, ◌<◌, ◌≤◌, ◌^◌, List, [], ◌∷◌, ◌++◌, map, slice_get, Option, Some, None}
 use Rattle.st_code.specs.Texts.{Text}
 use Rattle.st_code.specs.declared.instruction.Instruction.{Instruction}
 use Rattle.st_code.specs.declared.instruction.Instruction.TheVariants.{Send, SuperSend}
@@ -24,7 +23,7 @@ use Rattle.st_machine.specs.declared.work.Work.TheVariants as work
 use Rattle.st_machine.specs.Seen.{Seen}
 use Rattle.st_machine.specs.Plans.{program_in, room_in}
 use Rattle.st_machine.specs.Initializers.{seen_initializer}
-use Rattle.st_machine.specs.Sound.{IsSent, IsGivenSoundly}
+use Rattle.st_machine.specs.Sound.{IsSent, IsKept}
 use Rattle.st_machine.specs.Sending.{send_is_sound, send_of, super_send_is_sound, super_send_of, value_in}
 use Rattle.st_machine.specs.Steps.{advanced, advance_told, advance_written}
 use Rattle.st_machine.specs.Meaning.{events_of, flat_of, top_of}
@@ -115,7 +114,7 @@ abbrev pub IsSound : Mode → Seen → Type 0
 IsSound (mode.Begin (work.SendValue receiver env)) s = IsSent (send_is_sound (value_in s) receiver s) (send_of (value_in s) receiver s) s
 IsSound (mode.Begin (work.SendTo selector receiver env)) s = IsSent (send_is_sound selector receiver s) (send_of selector receiver s) s
 IsSound (mode.Begin (work.SuperTo class selector receiver env)) s = IsSent (super_send_is_sound class selector receiver s) (super_send_of class selector receiver s) s
-IsSound (mode.Begin (work.Visit n l v env)) s = IsGivenSoundly (state_of l) v s
+IsSound (mode.Begin (work.Visit n l v env)) s = IsKept (state_of l) s
 IsSound _ s = Unit {0}
 
 pub record Ready (s : Seen) : Type 0 where
@@ -123,7 +122,7 @@ pub record Ready (s : Seen) : Type 0 where
   pub initializers : map seen_initializer s.plan.initializers ≡ (program_in s.plan).initializers
   pub troubles : s.plan.troubles ≡ (program_in s.plan).trouble_place
   pub roomy : Roomy s.plan.codes s.stack.width
-  pub space : 0 < s.stack.width
+  pub space : 8 ≤ s.stack.width
   pub passes : s.stack.width ≤ s.passed.room
   pub arguments : s.passed.room ≡ room_in s.plan
   pub depth : s.stack.depth ≡ (program_in s.plan).depth_limit
@@ -134,18 +133,10 @@ pub record Ready (s : Seen) : Type 0 where
   pub next : CanGoOn s.mode s
   pub sound : IsSound s.mode s
 
--- a step makes a small step at least, but for the opening of the next initializer, which belongs to the small step before it; works that need the program's messages wait
-abbrev pub WorkMoves : Work → ℕ → Type 0
-WorkMoves (work.SendValue receiver env) count = Unit {0}
-WorkMoves (work.SendTo selector receiver env) count = Unit {0}
-WorkMoves (work.SuperTo class selector receiver env) count = Unit {0}
-WorkMoves (work.Visit n l v env) count = Unit {0}
-WorkMoves _ count = 0 < count
-
+-- a step makes a small step at least, but for the opening of the next initializer, which belongs to the small step before it
 abbrev pub Moves : Mode → ℕ → Type 0
 Moves mode.Next count = Unit {0}
 Moves (mode.Ended e) count = Unit {0}
-Moves (mode.Begin w) count = WorkMoves w count
 Moves _ count = 0 < count
 
 -- how many instructions it runs

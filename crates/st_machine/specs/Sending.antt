@@ -1,14 +1,14 @@
 -- Sends. Source: ANSI 3.3.
-use Rattle.std.specs.Prelude.{ℕ, Bool, true, false, [], length, if◌then◌else◌}
+use Rattle.std.specs.Prelude.{ℕ, Bool, true, false, ◌&&◌, [], length, Option, if◌then◌else◌}
 use Rattle.object_heap.specs.declared.value.Value.{Value}
 use Rattle.st_code.specs.Texts.{Text}
-use Rattle.st_code.specs.Lookup.{level_of, lookup, super_lookup}
+use Rattle.st_code.specs.Lookup.{Found, level_of, lookup, super_lookup}
 use Rattle.st_collections.specs.Actions.{Action}
 use Rattle.st_contexts.specs.declared.activation.Env.{Env}
 use Rattle.st_contexts.specs.declared.outcome.Limit.TheVariants as limit
 use Rattle.st_rules.specs.Rules.{value_selector}
 use Rattle.st_rules.specs.Sends.{send_action, super_action}
-use Rattle.st_messages.specs.Sent.{is_here}
+use Rattle.st_messages.specs.Sent.{is_here, is_ready}
 use Rattle.st_machine.specs.declared.work.Ending.TheVariants as ending
 use Rattle.st_machine.specs.declared.work.Told.{Told}
 use Rattle.st_machine.specs.declared.work.Told.TheVariants.{Nothing}
@@ -44,11 +44,15 @@ super_send_of class selector receiver s = super_action (program_in s.plan) s.mem
 abbrev pub value_in : Seen → ℕ
 value_in s = value_selector (program_in s.plan) (length s.passed.values)
 
+-- what is found is done for this receiver with the values that are passed on
+abbrev pub is_done : Option Found → Value → Seen → Bool
+is_done found receiver s = is_here found && is_ready s.memory.store found receiver s.passed.values
+
 abbrev pub send_is_sound : ℕ → Value → Seen → Bool
-send_is_sound selector receiver s = is_here (lookup (program_in s.plan) (level_of s.memory.store receiver) selector)
+send_is_sound selector receiver s = is_done (lookup (program_in s.plan) (level_of s.memory.store receiver) selector) receiver s
 
 abbrev pub super_send_is_sound : Value → ℕ → Value → Seen → Bool
-super_send_is_sound class selector receiver s = is_here (super_lookup (program_in s.plan) class selector)
+super_send_is_sound class selector receiver s = is_done (super_lookup (program_in s.plan) class selector) receiver s
 
 -- ---- sends
 

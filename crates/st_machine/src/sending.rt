@@ -1,14 +1,17 @@
 // Sends (ANSI NCITS 319, 3.3).
 ghost use Rattle.std.specs.Prelude.{◌≡◌};
+ghost use Rattle.st_messages.specs.declared.reply.Written.{Written};
 ghost use Rattle.st_messages.specs.Replies.{written_text};
+ghost use Rattle.st_machine.specs.Opening.{stopped};
 ghost use Rattle.st_machine.specs.Plans.{program_in};
+ghost use Rattle.st_machine.specs.Settling.{ended};
 ghost use Rattle.st_machine.specs.Sending.{value_in, sent, sent_told, sent_written, super_sent, super_sent_told, super_sent_written, value_sent};
 
 use crate::machine::Machine;
 use crate::work::{Telling, Told, telling};
 use object_heap::{Heap, Value};
 use st_contexts::{Env, Limit, Outcome};
-use st_messages::{Reply, send_message, super_message};
+use st_messages::{send_message, super_message};
 
 impl<H: Heap> Machine<H> {
     // The step limit is reached.
@@ -20,15 +23,13 @@ impl<H: Heap> Machine<H> {
         telling(Told::Nothing)
     }
 
-    // Goes on with a reply. Where there is none, the store isn't sound for the message.
-    fn say_if(&mut self, reply: Option<Reply>, env: Env) -> Telling {
-        match reply {
-            Some(reply) => self.say(reply, env),
-            None => {
-                self.strand();
-                telling(Told::Nothing)
-            }
-        }
+    // The store isn't sound for a message.
+    fn strand_silently(&mut self) -> Telling
+        ensures stranded { self.new ≡ ended Ending.Stranded self.old }
+        ensures told { result ≡ record { events = Told.Nothing; written = Written.Nothing } }
+    {
+        self.strand();
+        telling(Told::Nothing)
     }
 
     /// Sends a selector with the values that are passed on, and answers what that tells.
@@ -41,8 +42,10 @@ impl<H: Heap> Machine<H> {
             return self.stop_steps();
         }
         let arguments = self.passed.values();
-        let reply = send_message(&mut self.heap, &self.loaded, selector, receiver, arguments);
-        self.say_if(reply, env)
+        match send_message(&mut self.heap, &self.loaded, selector, receiver, arguments) {
+            Some(reply) => self.say(reply, env),
+            None => self.strand_silently(),
+        }
     }
 
     /// The same for a send to `super` in a body of this class or metaclass.
@@ -62,8 +65,10 @@ impl<H: Heap> Machine<H> {
         }
         let arguments = self.passed.values();
         let heap = &mut self.heap;
-        let reply = super_message(heap, &self.loaded, class, selector, receiver, arguments);
-        self.say_if(reply, env)
+        match super_message(heap, &self.loaded, class, selector, receiver, arguments) {
+            Some(reply) => self.say(reply, env),
+            None => self.strand_silently(),
+        }
     }
 
     // The selector that sends so many values.
