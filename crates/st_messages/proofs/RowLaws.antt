@@ -8,7 +8,7 @@ use Rattle.object_heap.specs.declared.value.Value.{Value}
 use Rattle.object_heap.specs.declared.value.Value.TheVariants.{Nil, True, False, Integer, Character, Symbol, Class, Meta, Transcript, Object}
 use Rattle.object_heap.specs.Store.{Store}
 use Rattle.st_code.specs.BuiltIns.{BuiltInMessage, no_message, numbered_messages, numbered_row}
-use Rattle.st_code.specs.Messages.{ObjectMessage, LoopMessage, CollectionMessage as CollectionRow, Row, Objects, Classes, Booleans, Numbers, Characters, Transcripts, Strings, Sequences, Collections, Blocks, Exceptions, Loops, Slots}
+use Rattle.st_code.specs.Messages.{ObjectMessage, CollectionMessage as CollectionRow, Row, Objects, Classes, Booleans, Numbers, Characters, Transcripts, Strings, Sequences, Collections, Blocks, Exceptions, Loops, Slots}
 use Rattle.st_code.specs.Program.{Program}
 use Rattle.st_collections.specs.AtOnce.{making_action, ordered_action, pair_action}
 use Rattle.st_collections.specs.SequenceRows.{collection_action}
@@ -67,21 +67,6 @@ row_past rows n e h none =
     let past : length (loops_in numbered_messages) ≤ n - 278 = none_past (loops_in numbered_messages) (n - 278) (sym (none ∙ behind n behind_plain)) in
     let far : 416 ≤ n = omega (arith, loop_count) in
     sym (ap at_once (past_all n far))
-
-pub loop-is : (x : Row) (m : LoopMessage) → Some m ≡ loop_of x → Some (Loops m) ≡ at_once x
-loop-is (Objects m) l e = cc
-loop-is (Classes m) l e = cc
-loop-is (Booleans m) l e = cc
-loop-is (Numbers m) l e = cc
-loop-is (Characters m) l e = cc
-loop-is (Transcripts m) l e = cc
-loop-is (Strings m) l e = cc
-loop-is (Sequences m) l e = cc
-loop-is (Collections m) l e = cc
-loop-is (Blocks m) l e = cc
-loop-is (Exceptions m) l e = cc
-loop-is (Loops m) l e = cc
-loop-is (Slots m) l e = cc
 
 -- a row that is here is itself
 pub at_once-is : (x y : Row) → Some y ≡ at_once x → x ≡ y

@@ -1,17 +1,22 @@
 -- What the tests of a row's receiver and arguments tell.
-use Rattle.std.proofs.Common.{◌≡◌, Bool, true, false, not, ◌&&◌, ◌||◌, List, Option, Some, None, refl, ap, ◌∙◌}
+use Rattle.std.proofs.Common.{◌≡◌, ℕ, Bool, true, false, not, ◌&&◌, ◌||◌, List, Option, Some, None, refl, ap, ◌∙◌}
+use Rattle.std.specs.Prelude.{is_some}
+use Rattle.std.specs.Option.{option_map}
 use Rattle.object_heap.specs.declared.value.Value.{Value}
 use Rattle.object_heap.specs.Store.{Store}
+use Rattle.st_code.specs.BuiltIns.{numbered_row}
 use Rattle.st_code.specs.Lookup.{Found, UserMethod, BuiltIn}
+use Rattle.program_image.specs.Images.{as_row}
+use Rattle.program_image.specs.declared.table.Found.{Found as ImageFound}
 use Rattle.st_code.specs.Messages.{CollectionMessage as CollectionRow, Row, Collections}
 use Rattle.st_collections.specs.Actions.{first}
-use Rattle.st_collections.specs.Items.{IsMeasured, is_measured}
+use Rattle.st_collections.specs.Items.{is_measured}
 use Rattle.st_collections.specs.Ordered.{IsOrdered, is_ordered}
 use Rattle.st_collections.specs.declared.message.OfOrdered.{OfOrdered}
 use Rattle.st_collections.proofs.Tests.{measured_so, ordered_so, so_measured, so_ordered}
 use Rattle.st_messages.specs.declared.row.MessageRow.{MessageRow}
-use Rattle.st_messages.specs.Rows.{ordered_row, table_row}
-use Rattle.st_messages.specs.Sent.{IsReady, IsSound, is_changing, is_ready, is_sound}
+use Rattle.st_messages.specs.Rows.{at_once, ordered_row, table_row}
+use Rattle.st_messages.specs.Sent.{IsReady, IsSound, is_changing, is_here, is_ready, is_sound}
 
 first_holds : (a b c : Bool) → (a && b && c) ≡ true → a ≡ true
 first_holds true b c e = refl
@@ -76,3 +81,14 @@ ready_done s (Some (BuiltIn row)) r args h =
     (changed s r row (λ m is. h.ordered m (ap (λ (x : Row). Some (BuiltIn x)) is)))
 ready_done s (Some (UserMethod code)) r args h = refl
 ready_done s None r args h = refl
+
+-- ---- what is found, as the code has it
+
+pub here_user : (s : Store) (o : Option ImageFound) (f : ImageFound) (code : ℕ) (r : Value) (args : List Value) → o ≡ Some f → f ≡ ImageFound.User code → true ≡ (is_here (option_map as_row o) && is_ready s (option_map as_row o) r args)
+unfolding is_ready
+here_user s o f code r args e e' = rw (e, e') refl
+
+pub here_built_in : (s : Store) (o : Option ImageFound) (f : ImageFound) (message : ℕ) (r : Value) (args : List Value) (b : Bool) → o ≡ Some f → f ≡ ImageFound.BuiltIn message
+    → b ≡ (is_some (at_once (numbered_row message)) && is_sound s (numbered_row message) r args) → b ≡ (is_here (option_map as_row o) && is_ready s (option_map as_row o) r args)
+unfolding is_ready
+here_built_in s o f message r args b e e' h = rw (e, e') h

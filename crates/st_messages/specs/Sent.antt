@@ -42,7 +42,6 @@ is_sound s row r args = is_measured s r && is_measured s (first args) && (not (i
 
 -- the same for what a send finds
 unfoldable pub is_ready : Store → Option Found → Value → List Value → Bool
-unfolding is_sound
 is_ready s (Some (BuiltIn row)) r args = is_sound s row r args
 is_ready s found r args = true
 

@@ -3,6 +3,8 @@
 
 mod requests;
 mod rows;
+mod stores;
 
 pub use requests::a_sound_store_meets_each_request;
 pub use rows::what_is_found_fits_its_receiver;
+pub use stores::each_store_is_sound;
