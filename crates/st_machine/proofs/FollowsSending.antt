@@ -5,7 +5,7 @@ use Rattle.object_heap.specs.declared.value.Value.{Value}
 use Rattle.object_heap.specs.Charges.{Memory}
 use Rattle.st_code.specs.Texts.{Text}
 use Rattle.st_code.specs.Program.{Program}
-use Rattle.st_collections.specs.Actions.{Action}
+use Rattle.st_collections.specs.Actions.{Action, Gives, Changes, Makes, Fails, PassesIntegers, DividesByZero, Writes, Begins, Activates, Sends, Misses, Enters, Guards, Ensures, Curtails, Iterates, Raises, RaisesNew, Controls, Terminates}
 use Rattle.st_collections.specs.Loops.{next_visit}
 use Rattle.st_contexts.specs.declared.activation.Activation.{Activation}
 use Rattle.st_contexts.specs.declared.activation.Env.{Env}
@@ -22,7 +22,7 @@ use Rattle.st_machine.specs.declared.work.Work.TheVariants as work
 use Rattle.st_machine.specs.Seen.{Plan, Passed, Seen}
 use Rattle.st_machine.specs.Plans.{program_in}
 use Rattle.st_machine.specs.Sending.{send_is_sound, send_of, super_send_is_sound, super_send_of, value_in}
-use Rattle.st_machine.specs.Sound.{IsSent, IsKept}
+use Rattle.st_machine.specs.Sound.{is_fit, IsSent, IsKept}
 use Rattle.st_machine.specs.Works.{begun, begun_told, begun_written}
 use Rattle.st_machine.specs.Meaning.{top_of, events_of, loop_of}
 use Rattle.st_machine.specs.Followed.{Falling}
@@ -31,6 +31,29 @@ use Rattle.st_machine.proofs.FollowsPerforming.{performs}
 use Rattle.st_machine.proofs.FollowsLoops.{visits}
 use Rattle.st_machine.proofs.LoopStates.{values_few}
 use Rattle.st_machine.proofs.SmallVisits.{Small, next_visit_small, small_fits}
+
+-- whether an action fits doesn't ask for the steps
+fit_steps : (a : Action) (s : Seen) (k : ℕ) → is_fit a (record s { steps = k }) ≡ is_fit a s
+fit_steps (Gives v) s k = refl
+fit_steps (Changes t v) s k = refl
+fit_steps (Makes n t v) s k = refl
+fit_steps (Fails t) s k = refl
+fit_steps PassesIntegers s k = refl
+fit_steps (DividesByZero v) s k = refl
+fit_steps (Writes t v) s k = refl
+fit_steps (Begins v vs) s k = refl
+fit_steps (Activates c vs) s k = refl
+fit_steps (Sends n v vs) s k = refl
+fit_steps (Misses n v vs) s k = refl
+fit_steps (Enters n v vs) s k = refl
+fit_steps (Guards u v w) s k = refl
+fit_steps (Ensures u v) s k = refl
+fit_steps (Curtails u v) s k = refl
+fit_steps (Iterates l) s k = refl
+fit_steps (Raises t n) s k = refl
+fit_steps (RaisesNew n vs) s k = refl
+fit_steps (Controls c n v) s k = refl
+fit_steps (Terminates v) s k = refl
 
 none : {n : ℕ} → n ≡ 0 → 0 + (0 + n) ≡ 0
 none e = omega (arith, e)
@@ -52,7 +75,7 @@ module _ (plan : Plan) (next depth width : ℕ) (vars : List Value) (passed : Pa
     unfolding step_made
     sends_by selector r env false below sound e = record { more = 0; counted = refl; comes = rw (e, append-nil tr, append-nil ev) refl }
     sends_by selector r env true below sound e =
-        let c = performs plan next depth width vars passed (steps + 1) deepest inits instrs tr ev acts (mode.Begin (work.SendTo selector r env)) env same_depth numbers below room (send_of selector r (here (work.SendTo selector r env))) mem cells troubles falling sound.fit in
+        let c = performs plan next depth width vars passed (steps + 1) deepest inits instrs tr ev acts (mode.Begin (work.SendTo selector r env)) env same_depth numbers below room (send_of selector r (here (work.SendTo selector r env))) mem cells troubles falling (fit_steps (send_of selector r (here (work.SendTo selector r env))) (here (work.SendTo selector r env)) (steps + 1) ∙ sound.fit) in
         record { more = suc c.count; counted = rw e (none c.counted); comes = rw (e, sound.done) c.comes }
 
     pub sends : (selector : ℕ) (r : Value) (env : Env) → env.0 < next → IsSent (send_is_sound selector r (here (work.SendTo selector r env))) (send_of selector r (here (work.SendTo selector r env))) (here (work.SendTo selector r env)) → Law (work.SendTo selector r env)
@@ -63,7 +86,7 @@ module _ (plan : Plan) (next depth width : ℕ) (vars : List Value) (passed : Pa
     value_sends_by r env false below sound e = record { more = 0; counted = refl; comes = rw (e, append-nil tr, append-nil ev) refl }
     value_sends_by r env true below sound e =
         let s = here (work.SendValue r env) in
-        let c = performs plan next depth width vars passed (steps + 1) deepest inits instrs tr ev acts (mode.Begin (work.SendValue r env)) env same_depth numbers below room (send_of (value_in s) r s) mem cells troubles falling sound.fit in
+        let c = performs plan next depth width vars passed (steps + 1) deepest inits instrs tr ev acts (mode.Begin (work.SendValue r env)) env same_depth numbers below room (send_of (value_in s) r s) mem cells troubles falling (fit_steps (send_of (value_in s) r s) s (steps + 1) ∙ sound.fit) in
         record { more = suc c.count; counted = rw e (none c.counted); comes = rw (e, sound.done) c.comes }
 
     pub value_sends : (r : Value) (env : Env) → env.0 < next → IsSent (send_is_sound (value_in (here (work.SendValue r env))) r (here (work.SendValue r env))) (send_of (value_in (here (work.SendValue r env))) r (here (work.SendValue r env))) (here (work.SendValue r env)) → Law (work.SendValue r env)
@@ -74,7 +97,7 @@ module _ (plan : Plan) (next depth width : ℕ) (vars : List Value) (passed : Pa
     super_sends_by class selector r env false below sound e = record { more = 0; counted = refl; comes = rw (e, append-nil tr, append-nil ev) refl }
     super_sends_by class selector r env true below sound e =
         let s = here (work.SuperTo class selector r env) in
-        let c = performs plan next depth width vars passed (steps + 1) deepest inits instrs tr ev acts (mode.Begin (work.SuperTo class selector r env)) env same_depth numbers below room (super_send_of class selector r s) mem cells troubles falling sound.fit in
+        let c = performs plan next depth width vars passed (steps + 1) deepest inits instrs tr ev acts (mode.Begin (work.SuperTo class selector r env)) env same_depth numbers below room (super_send_of class selector r s) mem cells troubles falling (fit_steps (super_send_of class selector r s) s (steps + 1) ∙ sound.fit) in
         record { more = suc c.count; counted = rw e (none c.counted); comes = rw (e, sound.done) c.comes }
 
     pub super_sends : (class : Value) (selector : ℕ) (r : Value) (env : Env) → env.0 < next → IsSent (super_send_is_sound class selector r (here (work.SuperTo class selector r env))) (super_send_of class selector r (here (work.SuperTo class selector r env))) (here (work.SuperTo class selector r env)) → Law (work.SuperTo class selector r env)

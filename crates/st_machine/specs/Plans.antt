@@ -30,11 +30,11 @@ AreShort codes = All (λ c. length c.captured.items < 2 ^ 32) codes
 -- ---- the values that a work passes on
 
 -- the greatest count of arguments of a selector, and of parameters of a code
-unfoldable pub greatest_arity : List Text → ℕ
+abbrev pub greatest_arity : List Text → ℕ
 greatest_arity [] = 0
 greatest_arity (name ∷ names) = max (arity name) (greatest_arity names)
 
-unfoldable pub greatest_parameters : List Compiled → ℕ
+abbrev pub greatest_parameters : List Compiled → ℕ
 greatest_parameters [] = 0
 greatest_parameters (c ∷ codes) = max c.parameters (greatest_parameters codes)
 

@@ -12,10 +12,12 @@ use st_tree::units::Indexed;
 impl ProgramFacts for Loaded {
     ghost meaning = { program_in };
 
+    #[tactic(none)]
     fn names(&self) -> &Names {
         self.image().names()
     }
 
+    #[tactic(none)]
     fn name_number(&self, text: &[u8]) -> u32 {
         match self.image().names().find(text) {
             Some(number) => number,
@@ -23,34 +25,42 @@ impl ProgramFacts for Loaded {
         }
     }
 
+    #[tactic(none)]
     fn class_name(&self, class: u32) -> &[u8] {
         self.image().class_name(class)
     }
 
+    #[tactic(none)]
     fn superclass(&self, class: u32) -> Option<u32> {
         self.image().class(class).superclass
     }
 
+    #[tactic(none)]
     fn is_in_file(&self, class: u32) -> bool {
         false
     }
 
+    #[tactic(none)]
     fn indexed(&self, class: u32) -> Indexed {
         Indexed::None
     }
 
+    #[tactic(none)]
     fn slot_count(&self, class: u32) -> u32 {
         self.slots(class)
     }
 
+    #[tactic(none)]
     fn is_under(&self, class: u32, ancestor: u32) -> bool {
         self.image().inherits(class, ancestor)
     }
 
+    #[tactic(none)]
     fn find(&self, side: Side, class: u32, selector: u32) -> Option<Found> {
         self.image().lookup(side, class, selector)
     }
 
+    #[tactic(none)]
     fn find_above(&self, class: Value, selector: u32) -> Option<Found> {
         match class {
             Value::Class(class) => match self.superclass(class) {
@@ -61,6 +71,7 @@ impl ProgramFacts for Loaded {
         }
     }
 
+    #[tactic(none)]
     fn parameters(&self, code: u32) -> u32 {
         self.parameters(code)
     }
@@ -68,6 +79,7 @@ impl ProgramFacts for Loaded {
 
 impl Loaded {
     /// The texts of the selectors and symbols by number.
+    #[tactic(none)]
     pub fn names(&self) -> &Names
         ensures { result.now ≡ (program_in self.now).names }
     {
