@@ -21,3 +21,4 @@ pub mod FollowsSending
 pub mod Follows
 pub mod Gone
 pub mod Replied
+pub mod Known
