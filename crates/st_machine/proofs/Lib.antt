@@ -23,3 +23,4 @@ pub mod Gone
 pub mod Replied
 pub mod GreatestRoom
 pub mod PassedOn
+pub mod Known

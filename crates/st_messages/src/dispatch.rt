@@ -6,8 +6,8 @@ ghost use Rattle.st_code.specs.BuiltIns.{numbered_row};
 ghost use Rattle.st_code.specs.Lookup.{level_of, lookup, super_lookup};
 ghost use Rattle.st_rules.specs.Sends.{row_action, send_action, super_action};
 ghost use Rattle.st_messages.specs.Replies.{is_lost, memory_after, seen, told_by, unless_lost};
-ghost use Rattle.st_messages.specs.Rows.{at_once, making_of, table_row};
-ghost use Rattle.st_messages.specs.Sent.{IsSound, found_does, is_changing, is_here, is_ready, is_sound};
+ghost use Rattle.st_messages.specs.Rows.{making_of, table_row};
+ghost use Rattle.st_messages.specs.Sent.{IsSound, found_does, is_changing, is_ready, is_sound};
 
 use crate::arguments::first_of;
 use crate::blocks::block_message;
@@ -18,6 +18,7 @@ use crate::exceptions::exception_message;
 use crate::facts::ProgramFacts;
 use crate::level::level_now;
 use crate::loops::loop_reply;
+use crate::numbers::number_reply;
 use crate::objects::object_message;
 use crate::reply::{Reply, answer};
 use crate::row::{MessageRow, OfMaker};
@@ -41,6 +42,8 @@ fn maker_of(message: OfMaker) -> OfMaking
         OfMaker::Empty => OfMaking::Empty,
         OfMaker::KeyValue => OfMaking::KeyValue,
         OfMaker::Arrow => OfMaking::Arrow,
+        OfMaker::To => OfMaking::To,
+        OfMaker::ToBy => OfMaking::ToBy,
     }
 }
 
@@ -63,6 +66,7 @@ fn row_reply<H: Heap, P: ProgramFacts>(
         MessageRow::Object(m) => object_message(heap, program, m, receiver, arguments),
         MessageRow::Class(m) => class_message(heap, program, m, receiver, arguments),
         MessageRow::Boolean(m) => boolean_message(m, receiver, arguments),
+        MessageRow::Number(m) => number_reply(heap, program, m, receiver, arguments),
         MessageRow::Transcript(m) => transcript_message(heap, m, receiver, arguments),
         MessageRow::Character(m) => {
             let message = CollectionMessage::Character(m);
@@ -140,7 +144,7 @@ pub fn row_message<H: Heap, P: ProgramFacts>(
     None
 }
 
-// What the built-in message with this number does at once. None where that isn't done here.
+// What the built-in message with this number does at once.
 fn built_in_message<H: Heap, P: ProgramFacts>(
     heap: &mut H,
     program: &P,
@@ -153,15 +157,12 @@ fn built_in_message<H: Heap, P: ProgramFacts>(
     ensures reserved { IfSome result (λ reply. IsTrue H.reserved → is_lost reply ≡ false) }
     ensures rest { IfNone result (H.meaning heap.new ≡ H.meaning heap.old) }
     ensures literals { H.literal_room heap.new ≡ H.literal_room heap.old }
-    ensures here { is_some result ≡ (is_some (at_once (numbered_row message)) && is_sound (H.meaning heap.old).store (numbered_row message) receiver arguments.now) }
+    ensures here { is_some result ≡ is_sound (H.meaning heap.old).store (numbered_row message) receiver arguments.now }
 {
-    match row_of(message) {
-        Some(row) => row_message(heap, program, row, receiver, arguments),
-        None => None,
-    }
+    row_message(heap, program, row_of(message), receiver, arguments)
 }
 
-// What is found does at once. None where that isn't done here.
+// What is found does at once.
 fn found_message<H: Heap, P: ProgramFacts>(
     heap: &mut H,
     program: &P,
@@ -175,7 +176,7 @@ fn found_message<H: Heap, P: ProgramFacts>(
     ensures reserved { IfSome result (λ reply. IsTrue H.reserved → is_lost reply ≡ false) }
     ensures rest { IfNone result (H.meaning heap.new ≡ H.meaning heap.old) }
     ensures literals { H.literal_room heap.new ≡ H.literal_room heap.old }
-    ensures here { is_some result ≡ (is_here (option_map as_row found) && is_ready (H.meaning heap.old).store (option_map as_row found) receiver arguments.now) }
+    ensures here { is_some result ≡ is_ready (H.meaning heap.old).store (option_map as_row found) receiver arguments.now }
 {
     match found {
         None => Some(Reply::Misses(selector, receiver)),
@@ -186,8 +187,8 @@ fn found_message<H: Heap, P: ProgramFacts>(
     }
 }
 
-/// Does what a send does at once (section 3.3). None, with nothing changed, where it finds a
-/// message that isn't done here, of numbers or `copy`, or where `row_message` has none.
+/// Does what a send does at once (section 3.3). None, with nothing changed, where `row_message` has
+/// none.
 pub fn send_message<H: Heap, P: ProgramFacts>(
     heap: &mut H,
     program: &P,
@@ -200,7 +201,7 @@ pub fn send_message<H: Heap, P: ProgramFacts>(
     ensures reserved { IfSome result (λ reply. IsTrue H.reserved → is_lost reply ≡ false) }
     ensures rest { IfNone result (H.meaning heap.new ≡ H.meaning heap.old) }
     ensures literals { H.literal_room heap.new ≡ H.literal_room heap.old }
-    ensures here { let found = lookup (P.meaning program.now) (level_of (H.meaning heap.old).store receiver) selector in is_some result ≡ (is_here found && is_ready (H.meaning heap.old).store found receiver arguments.now) }
+    ensures here { is_some result ≡ is_ready (H.meaning heap.old).store (lookup (P.meaning program.now) (level_of (H.meaning heap.old).store receiver) selector) receiver arguments.now }
 {
     let level = level_now(heap, receiver);
     let found = program.find(level.side, level.class, selector);
@@ -221,7 +222,7 @@ pub fn super_message<H: Heap, P: ProgramFacts>(
     ensures reserved { IfSome result (λ reply. IsTrue H.reserved → is_lost reply ≡ false) }
     ensures rest { IfNone result (H.meaning heap.new ≡ H.meaning heap.old) }
     ensures literals { H.literal_room heap.new ≡ H.literal_room heap.old }
-    ensures here { let found = super_lookup (P.meaning program.now) class selector in is_some result ≡ (is_here found && is_ready (H.meaning heap.old).store found receiver arguments.now) }
+    ensures here { is_some result ≡ is_ready (H.meaning heap.old).store (super_lookup (P.meaning program.now) class selector) receiver arguments.now }
 {
     let found = program.find_above(class, selector);
     found_message(heap, program, found, selector, receiver, arguments)
