@@ -202,6 +202,7 @@ impl Passed {
     }
 
     // Passes on all values but the first.
+    #[tactic(auto, using(crate::proofs::PassedOn::behind_fits))]
     fn drop_first(&mut self)
         ensures dropped { self.new ≡ passing (behind self.old.values) self.old }
         ensures fits { fits_in (behind self.old.values) self.old ≡ true }
