@@ -204,15 +204,17 @@ started-is p s LoopMessage.RemoveKeyIfAbsent r args l e = cc
 started-is p s LoopMessage.EqualElements r args l e = cc
 started-is p s LoopMessage.NotEqual r args l e = cc
 
-pub first_visit-names : (p : Program) (names : List Text) (s : Store) (m : LoopMessage) (r : Value) (args : List Value) (l : State) → p.names ≡ names → loop_action p s m r args ≡ Iterates l → first_visit p s l ≡ first_of_message (program_of names) s m (started (program_of names) s m r args)
+pub started_visit-names : (p : Program) (names : List Text) (s : Store) (m : LoopMessage) (r : Value) (args : List Value) → p.names ≡ names → first_visit p s (started p s m r args) ≡ first_of_message (program_of names) s m (started (program_of names) s m r args)
 unfolding first_visit
-first_visit-names p names s m r args l e stands =
-    let is : l ≡ started p s m r args = started-is p s m r args l stands in
-    ap (λ (x : State). first_of_message p s x.message x) is
-    ∙ ap (λ (k : LoopMessage). first_of_message p s k (started p s m r args)) (started-message p s m r args)
+started_visit-names p names s m r args e =
+    ap (λ (k : LoopMessage). first_of_message p s k (started p s m r args)) (started-message p s m r args)
     ∙ first-names p s m (started p s m r args)
     ∙ ap (λ (x : State). first_of_message (program_of p.names) s m x) (started-names p s m r args)
     ∙ ap (λ (ns : List Text). first_of_message (program_of ns) s m (started (program_of ns) s m r args)) e
+
+-- the loop that a message begins
+pub started_by : (p : Program) (s : Store) (m : LoopMessage) (r : Value) (args : List Value) (l : State) → loop_action p s m r args ≡ Iterates l → l ≡ started p s m r args
+started_by p s m r args l stands = started-is p s m r args l stands
 
 -- ---- the trouble of a loop
 

@@ -42,7 +42,7 @@ use Rattle.st_machine.proofs.Links.{other_number, env_skip}
 use Rattle.st_machine.proofs.Furnishing.{same_parameters}
 use Rattle.st_machine.proofs.Entries.{Names, names, no_entry}
 use Rattle.st_machine.proofs.FollowsOpening.{marks_length}
-use Rattle.st_machine.proofs.FollowsSettling.{Comes}
+use Rattle.st_machine.proofs.FollowsSettling.{Moved}
 
 -- ---- turns
 
@@ -85,7 +85,7 @@ module _ (plan : Plan) (next depth width : ℕ) (vars : List Value) (passed : Pa
   here w = record { plan = plan; stack = record { acts = acts; next = next; depth = depth; width = width }; memory = mem; variables = vars; passed = passed; mode = mode.Begin w; steps = steps; deepest = deepest; initializers = inits; instructions = instrs }
 
   abbrev Law : Work → Type 0
-  Law w = Comes plan width (top_of tr ev (here w)) (top_of tr (ev ++ events_of (begun_told w (here w))) (begun w (here w)))
+  Law w = Moved plan width (top_of tr ev (here w)) (top_of tr (ev ++ events_of (begun_told w (here w))) (begun w (here w)))
 
   module _ (same_depth : depth ≡ p.depth_limit) (numbers : next < 2 ^ 64 - 1) where
     place_same : (b : Bool) → nat_le (length acts + 1) depth ≡ b → nat_le (length acts + 1) p.depth_limit ≡ b
@@ -95,21 +95,21 @@ module _ (plan : Plan) (next depth width : ℕ) (vars : List Value) (passed : Pa
 
     module _ (x : SearchState) (rest : Env) where
       nobody : entry_in rest.0 acts ≡ None → Law (work.Search x rest)
-      nobody is = record { count = 1; comes = rw (no_entry acts rest is, is, append-nil ev) refl }
+      nobody is = record { more = 0; counted = refl; comes = rw (no_entry acts rest is, is, append-nil ev) refl }
 
       module _ (entry : standing.Entry) (is : entry_in rest.0 acts ≡ Some entry) (h : Names next acts rest.0 entry) where
         fitted : (b : Bool) → is_plain p mem.store entry.selector ≡ true → fits p mem.store entry.selector (object_at x.exception mem.store).class ≡ b → Law (work.Search x rest)
-        fitted true plain e = record { count = 1; comes = rw (h.env, is, plain, e, h.named) refl }
-        fitted false plain e = record { count = 1; comes = rw (h.env, is, plain, e) refl }
+        fitted true plain e = record { more = 0; counted = refl; comes = rw (h.env, is, plain, e, h.named) refl }
+        fitted false plain e = record { more = 0; counted = refl; comes = rw (h.env, is, plain, e) refl }
 
         abbrev wait : Standing
         wait = record { number = next; kept = act.HandlesWait x entry.protect; env = entry.outside; operands = [] }
 
         asked_by : (b : Bool) → nat_lt 0 passed.room ≡ true → is_plain p mem.store entry.selector ≡ false → nat_le (length acts + 1) depth ≡ b → nat_le (length acts + 1) p.depth_limit ≡ b → Law (work.Search x rest)
         unfolding stood
-        asked_by false room plain d d' = record { count = 1; comes = rw (h.env, is, plain, other_number next 18446744073709551615 numbers, marks_length acts, d, d', append-nil ev) refl }
+        asked_by false room plain d d' = record { more = 0; counted = refl; comes = rw (h.env, is, plain, other_number next 18446744073709551615 numbers, marks_length acts, d, d', append-nil ev) refl }
         asked_by true room plain d d' =
-            record { count = 1; comes = rw (h.env, is, plain, other_number next 18446744073709551615 numbers, marks_length acts, d, d', room, h.named, env_skip wait acts entry.outside (let small : entry.outside.0 < next = omega (arith, h.within, h.outside) in small)) refl }
+            record { more = 0; counted = refl; comes = rw (h.env, is, plain, other_number next 18446744073709551615 numbers, marks_length acts, d, d', room, h.named, env_skip wait acts entry.outside (let small : entry.outside.0 < next = omega (arith, h.within, h.outside) in small)) refl }
 
         entry_by : (b : Bool) → nat_lt 0 passed.room ≡ true → is_plain p mem.store entry.selector ≡ b → Law (work.Search x rest)
         entry_by true room plain = fitted (fits p mem.store entry.selector (object_at x.exception mem.store).class) plain refl
@@ -126,16 +126,16 @@ module _ (plan : Plan) (next depth width : ℕ) (vars : List Value) (passed : Pa
 
     module _ (x : SearchState) (outside : Env) (below : outside.0 < next) where
       known : (entry : Option ℕ) → asks_nested x.purpose ≡ true → Law (work.TurnBy x entry outside)
-      known None is = record { count = 1; comes = rw (nested_same acts x, is) refl }
-      known (Some entry) is = record { count = 1; comes = rw (nested_same acts x, is) refl }
+      known None is = record { more = 0; counted = refl; comes = rw (nested_same acts x, is) refl }
+      known (Some entry) is = record { more = 0; counted = refl; comes = rw (nested_same acts x, is) refl }
 
       abbrev turn : Option ℕ → Standing
       turn entry = record { number = next; kept = act.HandlerRun (turn_for x entry outside); env = outside; operands = [] }
 
       defaults : (b : Bool) → asks_nested x.purpose ≡ false → nat_le (length acts + 1) depth ≡ b → nat_le (length acts + 1) p.depth_limit ≡ b → Law (work.TurnBy x None outside)
       unfolding stood
-      defaults false is d d' = record { count = 1; comes = rw (nested_same acts x, is, other_number next 18446744073709551615 numbers, marks_length acts, d, d', append-nil ev) refl }
-      defaults true is d d' = record { count = 1; comes = rw (nested_same acts x, is, other_number next 18446744073709551615 numbers, marks_length acts, d, d', turn_same acts x None outside, env_skip (turn None) acts outside below) refl }
+      defaults false is d d' = record { more = 0; counted = refl; comes = rw (nested_same acts x, is, other_number next 18446744073709551615 numbers, marks_length acts, d, d', append-nil ev) refl }
+      defaults true is d d' = record { more = 0; counted = refl; comes = rw (nested_same acts x, is, other_number next 18446744073709551615 numbers, marks_length acts, d, d', turn_same acts x None outside, env_skip (turn None) acts outside below) refl }
 
       module _ (entry : ℕ) (compiled : plan.codes ≡ compile_of p) where
         abbrev w : Work
@@ -190,8 +190,8 @@ module _ (plan : Plan) (next depth width : ℕ) (vars : List Value) (passed : Pa
 
         handles_at : (b : Bool) → nat_lt 0 passed.room ≡ true → asks_nested x.purpose ≡ false → nat_le (length acts + 1) depth ≡ b → nat_le (length acts + 1) p.depth_limit ≡ b → Law w
         unfolding stood
-        handles_at false room is d d' = record { count = 1; comes = rw (nested_same acts x, is, other_number next 18446744073709551615 numbers, marks_length acts, d, d', append-nil ev) refl }
-        handles_at true room is d d' = record { count = 1; comes = applies_left (fitting (closure_in handler emptied) emptied) is d' (closure_same handler) ∙ applies_right (fitting (closure_in handler emptied) emptied) room ∙ ends_so is d }
+        handles_at false room is d d' = record { more = 0; counted = refl; comes = rw (nested_same acts x, is, other_number next 18446744073709551615 numbers, marks_length acts, d, d', append-nil ev) refl }
+        handles_at true room is d d' = record { more = 0; counted = refl; comes = applies_left (fitting (closure_in handler emptied) emptied) is d' (closure_same handler) ∙ applies_right (fitting (closure_in handler emptied) emptied) room ∙ ends_so is d }
 
       turns_at : (entry : Option ℕ) → plan.codes ≡ compile_of p → nat_lt 0 passed.room ≡ true → asks_nested x.purpose ≡ false → Law (work.TurnBy x entry outside)
       turns_at None compiled room is = defaults (nat_le (length acts + 1) depth) is refl (place_same (nat_le (length acts + 1) depth) refl)
@@ -212,8 +212,8 @@ module _ (plan : Plan) (next depth width : ℕ) (vars : List Value) (passed : Pa
 
       asks_at : (b : Bool) → nat_le (length acts + 1) depth ≡ b → nat_le (length acts + 1) p.depth_limit ≡ b → Law (work.Ask w k t env)
       unfolding stood
-      asks_at false d d' = record { count = 1; comes = rw (other_number next 18446744073709551615 numbers, marks_length acts, d, d', append-nil ev) refl }
-      asks_at true d d' = record { count = 1; comes = rw (other_number next 18446744073709551615 numbers, marks_length acts, d, d', env_skip waiter acts env below, append-nil ev) refl }
+      asks_at false d d' = record { more = 0; counted = refl; comes = rw (other_number next 18446744073709551615 numbers, marks_length acts, d, d', append-nil ev) refl }
+      asks_at true d d' = record { more = 0; counted = refl; comes = rw (other_number next 18446744073709551615 numbers, marks_length acts, d, d', env_skip waiter acts env below, append-nil ev) refl }
 
       pub asks : Law (work.Ask w k t env)
       asks = asks_at (nat_le (length acts + 1) depth) refl (place_same (nat_le (length acts + 1) depth) refl)

@@ -1,5 +1,5 @@
 -- An outcome at the innermost activation is one or two small steps of the flat machine.
-use Rattle.std.proofs.Common.{◌≡◌, ℕ, ◌+◌, ◌-◌, ◌<◌, ◌^◌, min, List, [], ◌∷◌, ◌++◌, length, Bool, true, false, nat_eq, nat_le, if◌then◌else◌, Option, Some, None, refl, ap, sym, arith}
+use Rattle.std.proofs.Common.{◌≡◌, ℕ, suc, ◌+◌, ◌-◌, ◌<◌, ◌^◌, min, List, [], ◌∷◌, ◌++◌, length, Bool, true, false, nat_eq, nat_le, if◌then◌else◌, Option, Some, None, refl, ap, sym, arith}
 use Rattle.std.specs.Option.{option_map}
 use Rattle.std.proofs.lemmas.List.{append-nil, append_assoc}
 use Rattle.object_heap.specs.declared.value.Value.{Value}
@@ -16,7 +16,7 @@ use Rattle.st_contexts.specs.declared.activation.Turn as linked
 use Rattle.st_contexts.specs.declared.activation.Wait as waiting
 use Rattle.st_contexts.specs.declared.activation.Wait.TheVariants as wait
 use Rattle.st_contexts.specs.declared.activation.SearchState.{SearchState}
-use Rattle.st_contexts.specs.declared.activation.LoopState.{LoopState}
+use Rattle.st_loops.specs.declared.state.LoopState.{LoopState}
 use Rattle.st_contexts.specs.declared.outcome.Outcome as hand
 use Rattle.st_contexts.specs.declared.outcome.Outcome.TheVariants as outcome
 use Rattle.st_contexts.specs.declared.outcome.Target as aim
@@ -28,7 +28,7 @@ use Rattle.st_rules.specs.Rules.{Apply, Raise}
 use Rattle.st_rules.specs.Ends as rules
 use Rattle.st_rules.specs.Machine.{ProtectAct, ActionOff, SignalAct, Mach, Settle, Begin, give, unwind, asked_act, marks}
 use Rattle.st_rules.specs.Flat.{FlatBody, flat, flat_number}
-use Rattle.st_rules.specs.Turns.{Top, On, top_iter}
+use Rattle.st_rules.specs.Turns.{Top, On, top_iter, instructions}
 use Rattle.st_machine.specs.declared.work.Mode.{Mode}
 use Rattle.st_machine.specs.declared.work.Work.TheVariants as work
 use Rattle.st_machine.specs.Seen.{Plan, Passed, Seen}
@@ -68,10 +68,17 @@ outer_same n (target.RetryWith m) v = refl
 outer_same n (target.Resignal m e) v = refl
 outer_same n target.Terminate v = refl
 
--- some small steps
+-- some small steps, without an instruction
 pub record Comes (plan : Plan) (width : ℕ) (from to : Top FlatBody) : Type 0 where
   pub count : ℕ
   pub comes : top_iter (flat (program_in plan) plan.codes width) (program_in plan) count from ≡ to
+  pub counted : instructions (flat (program_in plan) plan.codes width) (program_in plan) count from ≡ 0
+
+-- one small step and some more, without an instruction
+pub record Moved (plan : Plan) (width : ℕ) (from to : Top FlatBody) : Type 0 where
+  pub more : ℕ
+  pub comes : top_iter (flat (program_in plan) plan.codes width) (program_in plan) (suc more) from ≡ to
+  pub counted : instructions (flat (program_in plan) plan.codes width) (program_in plan) (suc more) from ≡ 0
 
 entry_further : (n m : ℕ) (entry : Option ℕ) → n < m → EntryBelow n entry → EntryBelow m entry
 entry_further n m None l h = tt
@@ -207,18 +214,18 @@ module _ (plan : Plan) (next depth width : ℕ) (vars : List Value) (passed : Pa
 
       -- a value at any activation
       pub value_law : (k : Activation) → KeptBelow n k → n < next → next < 2 ^ 64 - 1 → depth ≡ p.depth_limit → Comes plan width (goes (give (flat p plan.codes width) p v (act_by k n env ops acts) (acts_of acts) state)) (top_of tr (ev ++ events_of (answer_told k n v (over k))) (answered_by k n env v (over k)))
-      value_law (act.Body f) h l numbers same_depth = record { count = 0; comes = body_answers f (let moves : min (f.position + 1) (2 ^ 32 - 1) ≡ f.position + 1 = omega (arith, h) in moves) }
-      value_law (act.Leaving f) h l numbers same_depth = record { count = 0; comes = leaving_answers f }
-      value_law (act.Protect r s t) h l numbers same_depth = record { count = 0; comes = protect_answers r s t }
-      value_law (act.EnsureOn block) h l numbers same_depth = record { count = 1; comes = ensure_answers block }
-      value_law (act.CurtailOn block) h l numbers same_depth = record { count = 0; comes = curtail_answers block }
-      value_law (act.ActionOff held) h l numbers same_depth = record { count = 0; comes = action_answers held }
-      value_law (act.Signal e) h l numbers same_depth = record { count = 0; comes = signal_answers e }
-      value_law (act.HandlerRun t) h l numbers same_depth = record { count = 0; comes = turn_answers t }
-      value_law act.Outer h l numbers same_depth = record { count = 0; comes = outer_answers }
-      value_law (act.ResumeWait w k t) h l numbers same_depth = record { count = 0; comes = asks k t (turn_further n next t l h) numbers same_depth (is_true v) w }
-      value_law (act.HandlesWait x entry) h l numbers same_depth = record { count = 0; comes = judges x entry }
-      value_law (act.Loop state) h l numbers same_depth = record { count = 0; comes = loop_answers state }
+      value_law (act.Body f) h l numbers same_depth = record { count = 0; counted = refl; comes = body_answers f (let moves : min (f.position + 1) (2 ^ 32 - 1) ≡ f.position + 1 = omega (arith, h) in moves) }
+      value_law (act.Leaving f) h l numbers same_depth = record { count = 0; counted = refl; comes = leaving_answers f }
+      value_law (act.Protect r s t) h l numbers same_depth = record { count = 0; counted = refl; comes = protect_answers r s t }
+      value_law (act.EnsureOn block) h l numbers same_depth = record { count = 1; counted = refl; comes = ensure_answers block }
+      value_law (act.CurtailOn block) h l numbers same_depth = record { count = 0; counted = refl; comes = curtail_answers block }
+      value_law (act.ActionOff held) h l numbers same_depth = record { count = 0; counted = refl; comes = action_answers held }
+      value_law (act.Signal e) h l numbers same_depth = record { count = 0; counted = refl; comes = signal_answers e }
+      value_law (act.HandlerRun t) h l numbers same_depth = record { count = 0; counted = refl; comes = turn_answers t }
+      value_law act.Outer h l numbers same_depth = record { count = 0; counted = refl; comes = outer_answers }
+      value_law (act.ResumeWait w k t) h l numbers same_depth = record { count = 0; counted = refl; comes = asks k t (turn_further n next t l h) numbers same_depth (is_true v) w }
+      value_law (act.HandlesWait x entry) h l numbers same_depth = record { count = 0; counted = refl; comes = judges x entry }
+      value_law (act.Loop state) h l numbers same_depth = record { count = 0; counted = refl; comes = loop_answers state }
 
       -- ---- an unwinding
 
@@ -227,72 +234,72 @@ module _ (plan : Plan) (next depth width : ℕ) (vars : List Value) (passed : Pa
         Unwinds k = Comes plan width (goes (unwind (flat p plan.codes width) p (target_of t) v (act_by k n env ops acts) (acts_of acts) state)) (top_of tr (ev ++ events_of (unwinding_told k n t v)) (unwound_by k n env t v (over k)))
 
         at_once : (x y : Top FlatBody) → x ≡ y → Comes plan width x y
-        at_once x y e = record { count = 0; comes = e }
+        at_once x y e = record { count = 0; counted = refl; comes = e }
 
         body_unwinds : (f : Frame) → Unwinds (act.Body f)
-        body_unwinds f = record { count = 0; comes = rw (home_same n t v, append-nil ev) refl }
+        body_unwinds f = record { count = 0; counted = refl; comes = rw (home_same n t v, append-nil ev) refl }
 
         leaving_unwinds : (f : Frame) → Unwinds (act.Leaving f)
-        leaving_unwinds f = record { count = 0; comes = rw (home_same n t v, append-nil ev) refl }
+        leaving_unwinds f = record { count = 0; counted = refl; comes = rw (home_same n t v, append-nil ev) refl }
 
         outer_unwinds : Unwinds act.Outer
-        outer_unwinds = record { count = 0; comes = rw (outer_same n t v) (end_law (stand act.Outer) acts n (at_outer n t v)) }
+        outer_unwinds = record { count = 0; counted = refl; comes = rw (outer_same n t v) (end_law (stand act.Outer) acts n (at_outer n t v)) }
 
         wait_unwinds : (w : waiting.Wait) (k : ℕ) (turn : linked.Turn) → Unwinds (act.ResumeWait w k turn)
-        wait_unwinds w k turn = record { count = 0; comes = untold (left_with (outcome.Go t v) (over (act.ResumeWait w k turn))) }
+        wait_unwinds w k turn = record { count = 0; counted = refl; comes = untold (left_with (outcome.Go t v) (over (act.ResumeWait w k turn))) }
 
         loop_unwinds : (l : LoopState) → Unwinds (act.Loop l)
-        loop_unwinds l = record { count = 0; comes = untold (left_with (outcome.Go t v) (over (act.Loop l))) }
+        loop_unwinds l = record { count = 0; counted = refl; comes = untold (left_with (outcome.Go t v) (over (act.Loop l))) }
 
       retries : (m : ℕ) (r s h : Value) (b : Bool) → nat_eq m n ≡ b → Unwinds (target.Retry m) (act.Protect r s h)
-      retries m r s h true is = record { count = 1; comes = rw is (again_law (act.Protect r s h) r s h) }
-      retries m r s h false is = record { count = 0; comes = rw is refl }
+      retries m r s h true is = record { count = 1; counted = rw is refl; comes = rw is (again_law (act.Protect r s h) r s h) }
+      retries m r s h false is = record { count = 0; counted = refl; comes = rw is refl }
 
       retries_with : (m : ℕ) (r s h : Value) (b : Bool) → nat_eq m n ≡ b → Unwinds (target.RetryWith m) (act.Protect r s h)
-      retries_with m r s h true is = record { count = 1; comes = rw is (again_law (act.Protect r s h) v s h) }
-      retries_with m r s h false is = record { count = 0; comes = rw is refl }
+      retries_with m r s h true is = record { count = 1; counted = rw is refl; comes = rw is (again_law (act.Protect r s h) v s h) }
+      retries_with m r s h false is = record { count = 0; counted = refl; comes = rw is refl }
 
       returns_by : (m : ℕ) (r s h : Value) (b : Bool) → nat_eq m n ≡ b → Unwinds (target.Protected m) (act.Protect r s h)
-      returns_by m r s h true is = record { count = 0; comes = rw is refl }
-      returns_by m r s h false is = record { count = 0; comes = rw is refl }
+      returns_by m r s h true is = record { count = 0; counted = refl; comes = rw is refl }
+      returns_by m r s h false is = record { count = 0; counted = refl; comes = rw is refl }
 
       protect_unwinds : (t : aim.Target) (r s h : Value) → Unwinds t (act.Protect r s h)
-      protect_unwinds (target.Home m) r s h = record { count = 0; comes = refl }
+      protect_unwinds (target.Home m) r s h = record { count = 0; counted = refl; comes = refl }
       protect_unwinds (target.Protected m) r s h = returns_by m r s h (nat_eq m n) refl
       protect_unwinds (target.Retry m) r s h = retries m r s h (nat_eq m n) refl
       protect_unwinds (target.RetryWith m) r s h = retries_with m r s h (nat_eq m n) refl
-      protect_unwinds (target.Resume m) r s h = record { count = 0; comes = refl }
-      protect_unwinds (target.Resignal m e) r s h = record { count = 0; comes = refl }
-      protect_unwinds target.Terminate r s h = record { count = 0; comes = refl }
+      protect_unwinds (target.Resume m) r s h = record { count = 0; counted = refl; comes = refl }
+      protect_unwinds (target.Resignal m e) r s h = record { count = 0; counted = refl; comes = refl }
+      protect_unwinds target.Terminate r s h = record { count = 0; counted = refl; comes = refl }
 
       resumes_by : (m e : ℕ) (b : Bool) → nat_eq m n ≡ b → Unwinds (target.Resume m) (act.Signal e)
-      resumes_by m e true is = record { count = 0; comes = rw is refl }
-      resumes_by m e false is = record { count = 0; comes = rw is refl }
+      resumes_by m e true is = record { count = 0; counted = refl; comes = rw is refl }
+      resumes_by m e false is = record { count = 0; counted = refl; comes = rw is refl }
 
       instead_by : (m f e : ℕ) (b : Bool) → nat_eq m n ≡ b → Unwinds (target.Resignal m f) (act.Signal e)
-      instead_by m f e true is = record { count = 1; comes = rw is (instead_law e f) }
-      instead_by m f e false is = record { count = 0; comes = rw is refl }
+      instead_by m f e true is = record { count = 1; counted = rw is refl; comes = rw is (instead_law e f) }
+      instead_by m f e false is = record { count = 0; counted = refl; comes = rw is refl }
 
       signal_unwinds : (t : aim.Target) (e : ℕ) → Unwinds t (act.Signal e)
-      signal_unwinds (target.Home m) e = record { count = 0; comes = refl }
-      signal_unwinds (target.Protected m) e = record { count = 0; comes = refl }
-      signal_unwinds (target.Retry m) e = record { count = 0; comes = refl }
-      signal_unwinds (target.RetryWith m) e = record { count = 0; comes = refl }
+      signal_unwinds (target.Home m) e = record { count = 0; counted = refl; comes = refl }
+      signal_unwinds (target.Protected m) e = record { count = 0; counted = refl; comes = refl }
+      signal_unwinds (target.Retry m) e = record { count = 0; counted = refl; comes = refl }
+      signal_unwinds (target.RetryWith m) e = record { count = 0; counted = refl; comes = refl }
       signal_unwinds (target.Resume m) e = resumes_by m e (nat_eq m n) refl
       signal_unwinds (target.Resignal m f) e = instead_by m f e (nat_eq m n) refl
-      signal_unwinds target.Terminate e = record { count = 0; comes = refl }
+      signal_unwinds target.Terminate e = record { count = 0; counted = refl; comes = refl }
 
       -- an unwinding at any activation
       pub unwinding_law : (t : aim.Target) (k : Activation) → Unwinds t k
       unwinding_law t (act.Body f) = body_unwinds t f
       unwinding_law t (act.Leaving f) = leaving_unwinds t f
       unwinding_law t (act.Protect r s h) = protect_unwinds t r s h
-      unwinding_law t (act.EnsureOn block) = record { count = 1; comes = finish_law (act.EnsureOn block) block (outcome.Go t v) }
-      unwinding_law t (act.CurtailOn block) = record { count = 1; comes = finish_law (act.CurtailOn block) block (outcome.Go t v) }
-      unwinding_law t (act.ActionOff held) = record { count = 0; comes = refl }
+      unwinding_law t (act.EnsureOn block) = record { count = 1; counted = refl; comes = finish_law (act.EnsureOn block) block (outcome.Go t v) }
+      unwinding_law t (act.CurtailOn block) = record { count = 1; counted = refl; comes = finish_law (act.CurtailOn block) block (outcome.Go t v) }
+      unwinding_law t (act.ActionOff held) = record { count = 0; counted = refl; comes = refl }
       unwinding_law t (act.Signal e) = signal_unwinds t e
-      unwinding_law t (act.HandlerRun turn) = record { count = 0; comes = refl }
+      unwinding_law t (act.HandlerRun turn) = record { count = 0; counted = refl; comes = refl }
       unwinding_law t act.Outer = outer_unwinds t
       unwinding_law t (act.ResumeWait w k turn) = wait_unwinds t w k turn
-      unwinding_law t (act.HandlesWait x entry) = record { count = 0; comes = refl }
+      unwinding_law t (act.HandlesWait x entry) = record { count = 0; counted = refl; comes = refl }
       unwinding_law t (act.Loop l) = loop_unwinds t l

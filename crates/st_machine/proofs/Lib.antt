@@ -13,6 +13,14 @@ pub mod FollowsSettling
 pub mod FollowsSignals
 pub mod FollowsSearches
 pub mod FollowsControls
+pub mod SmallVisits
+pub mod LoopStates
+pub mod FollowsLoops
+pub mod FollowsPerforming
+pub mod FollowsSending
 pub mod Follows
-pub mod Telling
+pub mod Gone
+pub mod Replied
+pub mod GreatestRoom
+pub mod PassedOn
 pub mod Known

@@ -20,6 +20,13 @@ const UNDEFINED_OBJECT: u32 = 1;
 const CLASS: u32 = 20;
 
 impl Loaded {
+    /// The texts of the selectors and symbols by number.
+    pub fn names(&self) -> &Names
+        ensures { result.now ≡ (program_in self.now).names }
+    {
+        self.image().names()
+    }
+
     // A method by the number of its code in place of that of its unit.
     fn coded(&self, found: Found) -> Found
         ensures { as_row result ≡ coded (unit_codes self.now.units) (as_row found) }

@@ -1,11 +1,11 @@
 // Small programs that are run: initializers that keep their values.
-use super::{Ending, Loaded, Machine, Mode, Progress, Told};
+use super::{Ending, Loaded, Machine, Mode, Progress};
 use crate::scopes::shared;
 use cell_heap::CellHeap;
 use object_heap::{Heap, Value};
 use program_image::build;
 use sqlite_items::Items;
-use st_base::{Limits, OutOfMemory, Text};
+use st_base::{Limits, MemorySink, OutOfMemory, Text};
 use st_compiler::compile;
 use st_tree::tree::{Body, Expr, Literal, Name, Operand, Primary, Statement};
 use st_tree::units::{Definition, Unit, UnitKind, UnitList};
@@ -71,9 +71,8 @@ fn machine(alloc: Global, count: usize) -> Result<Machine<CellHeap>, OutOfMemory
 #[test]
 fn a_value_is_kept(rt: HostRuntime) -> Result<(), Fail> {
     let mut machine = machine(rt.alloc(), 1)?;
-    for _ in 0..40 {
-        assert_eq!(rt; machine.advance(), Told::Nothing);
-    }
+    let mut out = MemorySink::new(rt.alloc(), 9, Vec::new(rt.alloc()))?;
+    assert_eq!(rt; machine.go(40, &mut out), Progress::Ended(Ending::Done));
     assert_eq!(rt; machine.mode(), Mode::Ended(Ending::Done));
     assert_eq!(rt; shared(&machine.variables, 0, 0), Value::Integer(4));
     assert_eq!(rt; machine.heap.used(), 0);
@@ -114,8 +113,9 @@ static TURNS: [Turns; 4] = [
 #[test]
 fn initializers_run_one_behind_the_other(rt: HostRuntime) -> Result<(), Fail> {
     let mut machine = machine(rt.alloc(), 2)?;
+    let mut out = MemorySink::new(rt.alloc(), 9, Vec::new(rt.alloc()))?;
     for row in &TURNS {
-        assert_eq!(rt; machine.go(row.turns), row.progress);
+        assert_eq!(rt; machine.go(row.turns, &mut out), row.progress);
         assert_eq!(rt; machine.stats().instructions, row.instructions);
     }
     Ok(())
