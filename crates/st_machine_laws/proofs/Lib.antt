@@ -1,0 +1,10 @@
+pub mod Blocks
+pub mod Signals
+pub mod Searches
+pub mod Settling
+pub mod Opening
+pub mod Instructions
+pub mod Steps
+pub mod Idle
+pub mod Moments
+pub mod WholeRun

@@ -1,0 +1,6 @@
+// The run of the machine: what holds at each of its moments, and that it is the run of the rules.
+#![tactic(auto)]
+
+mod stays_ready;
+
+pub use stays_ready::a_machine_stays_ready;
