@@ -1,6 +1,7 @@
 """What the comparisons share: the independent implementation, the program, and cases run side by side."""
 import argparse
 import concurrent.futures
+import functools
 import os
 import subprocess
 import sys
@@ -27,6 +28,7 @@ def has_oracle(name):
     return True
 
 
+@functools.lru_cache
 def program():
     """Where the built program stands."""
     build = os.path.join(TOP, "tools", "build")
@@ -48,10 +50,10 @@ def answer(words, data, cuts=()):
     return run.returncode, out, report
 
 
-def compare(name, cases, differs):
+def compare(name, cases, differs, workers=concurrent.futures.ThreadPoolExecutor):
     """Runs all cases, prints the first differences, and gives the status."""
     failed = compared = 0
-    with concurrent.futures.ThreadPoolExecutor(os.cpu_count()) as pool:
+    with workers(os.cpu_count()) as pool:
         for found in pool.map(differs, cases):
             compared += 1
             if found:

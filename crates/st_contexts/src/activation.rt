@@ -4,6 +4,7 @@ ghost use Rattle.st_contexts.specs.Marks.{mark_in, frame_in};
 
 use crate::outcome::Outcome;
 use object_heap::Value;
+use st_loops::LoopState;
 
 /// Names an environment by the number of its innermost `on:do:`. Number 0 names the empty one.
 #[derive(Clone, Copy, Debug, PartialEq, Eq)]
@@ -81,31 +82,6 @@ pub enum Wait {
     Resume { value: Value },
     /// The turn does what `outer` does.
     Outer,
-}
-
-/// The arguments of a loop message.
-#[derive(Clone, Copy, Debug, PartialEq, Eq)]
-pub enum Arguments {
-    Zero,
-    One(Value),
-    Two(Value, Value),
-    Three(Value, Value, Value),
-}
-
-/// Where a built-in loop is.
-#[derive(Clone, Copy, Debug, PartialEq, Eq)]
-pub struct LoopState {
-    /// The number of its message.
-    pub message: u16,
-    pub receiver: Value,
-    pub arguments: Arguments,
-    pub index: i128,
-    /// The value or collection made so far.
-    pub made: Value,
-    /// The element that is visited.
-    pub visited: Value,
-    /// Whether it waits for something else than a visit, as a separator.
-    pub aside: bool,
 }
 
 /// What an activation is for, with what it keeps.

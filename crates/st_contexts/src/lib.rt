@@ -9,8 +9,7 @@ mod tests;
 mod watch;
 
 pub use activation::{
-    Activation, Arguments, Entry, Env, Frame, LoopState, Mark, Numbered, Purpose, SearchState,
-    Turn, Wait,
+    Activation, Entry, Env, Frame, Mark, Numbered, Purpose, SearchState, Turn, Wait,
 };
 pub use contexts::{Contexts, DepthLimit};
 pub use outcome::{Limit, Outcome, Target};

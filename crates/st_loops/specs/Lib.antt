@@ -9,3 +9,4 @@ pub mod Requests
 pub mod Gathering
 pub mod Searches
 pub mod Starts
+pub mod Tests

@@ -3,10 +3,10 @@ ghost use Rattle.std.specs.Prelude.{◌≡◌, ◌≤◌, [], true, false, lengt
 ghost use Rattle.object_heap.specs.Charges.{charged, if_out, ran_out};
 ghost use Rattle.st_code.specs.BuiltIns.{ordered_collection_class};
 ghost use Rattle.st_code.specs.Program.{Program};
-ghost use Rattle.st_collections.specs.Actions.{Iterates, LoopState as State, with_new};
+ghost use Rattle.st_collections.specs.Actions.{with_new};
 ghost use Rattle.st_collections.specs.Answers.{allot_answer, program_of};
 ghost use Rattle.st_collections.specs.Items.{IsMeasured};
-ghost use Rattle.st_collections.specs.Loops.{first_of_message, first_visit, loop_action, visit_at};
+ghost use Rattle.st_collections.specs.Loops.{first_of_message, first_visit, visit_at};
 ghost use Rattle.st_loops.specs.Gathering.{gathers, with_made};
 ghost use Rattle.st_loops.specs.Kinds.{message_of};
 ghost use Rattle.st_loops.specs.Requests.{IsReceiver};
@@ -165,9 +165,9 @@ pub fn begin<H: Heap>(
     requires few { length arguments.now ≤ 3 }
     requires measured { IsMeasured (H.meaning heap.old).store receiver }
     requires receiver { IsReceiver (H.meaning heap.old).store (message_of kind) receiver }
-    ensures memory { (p : Program) (l : State) → p.names ≡ names.now → loop_action p (H.meaning heap.old).store (message_of kind) receiver arguments.now ≡ Iterates l → H.meaning heap.new ≡ unless_out (seen result) (if gathers (message_of kind) then H.meaning heap.new else H.meaning heap.old) (memory_after (first_visit p (H.meaning heap.old).store l) (H.meaning heap.old)) }
-    ensures partway { (p : Program) (l : State) → p.names ≡ names.now → loop_action p (H.meaning heap.old).store (message_of kind) receiver arguments.now ≡ Iterates l → gathers (message_of kind) ≡ true → is_out (seen result) ≡ true → IsPartway (first_visit p (H.meaning heap.old).store l) (H.meaning heap.old) (H.meaning heap.new) }
-    ensures step { (p : Program) (l : State) → p.names ≡ names.now → loop_action p (H.meaning heap.old).store (message_of kind) receiver arguments.now ≡ Iterates l → seen result ≡ unless_out (seen result) Out (told_of (first_visit p (H.meaning heap.old).store l) (H.meaning heap.old)) }
+    ensures memory { (p : Program) → p.names ≡ names.now → H.meaning heap.new ≡ unless_out (seen result) (if gathers (message_of kind) then H.meaning heap.new else H.meaning heap.old) (memory_after (first_visit p (H.meaning heap.old).store (started p (H.meaning heap.old).store (message_of kind) receiver arguments.now)) (H.meaning heap.old)) }
+    ensures partway { (p : Program) → p.names ≡ names.now → gathers (message_of kind) ≡ true → is_out (seen result) ≡ true → IsPartway (first_visit p (H.meaning heap.old).store (started p (H.meaning heap.old).store (message_of kind) receiver arguments.now)) (H.meaning heap.old) (H.meaning heap.new) }
+    ensures step { (p : Program) → p.names ≡ names.now → seen result ≡ unless_out (seen result) Out (told_of (first_visit p (H.meaning heap.old).store (started p (H.meaning heap.old).store (message_of kind) receiver arguments.now)) (H.meaning heap.old)) }
     ensures reserved { IsTrue H.reserved → is_out (seen result) ≡ false }
     ensures literals { H.literal_room heap.new ≡ H.literal_room heap.old }
 {

@@ -1,7 +1,6 @@
 -- A step of a machine that is ready is some small steps of the flat machine.
-use Rattle.std.proofs.Common.{◌≡◌, ℕ, suc, ◌+◌, ◌-◌, ◌^◌, min, List, [], ◌∷◌, ◌++◌, slice_get, true, nat_lt, ◌<◌, refl, ap, sym, ◌∙◌, arith}
+use Rattle.std.proofs.Common.{◌≡◌, ℕ, suc, ◌+◌, ◌-◌, ◌^◌, min, List, [], ◌∷◌, ◌++◌, slice_get, true, nat_lt, ◌<◌, ◌≤◌, lt-ltb, refl, ap, sym, subst, ◌∙◌, arith}
 use Rattle.std.proofs.lemmas.List.{append-nil}
-use Rattle.std.proofs.lemmas.Bool.Decides.{nat_tests}
 use Rattle.object_heap.specs.declared.value.Value.{Value}
 use Rattle.st_code.specs.Texts.{Text}
 use Rattle.st_contexts.specs.declared.activation.Activation.{Activation}
@@ -14,6 +13,7 @@ use Rattle.st_contexts.specs.declared.outcome.Target.TheVariants as target
 use Rattle.st_contexts.specs.declared.outcome.Limit.{Limit}
 use Rattle.st_contexts.specs.declared.outcome.Limit.TheVariants as limit
 use Rattle.st_contexts.specs.Stack.{Standing}
+use Rattle.st_loops.specs.declared.state.LoopState.{LoopState}
 use Rattle.st_rules.specs.Events.{Event}
 use Rattle.st_rules.specs.Flat.{code_at, instruction_at}
 use Rattle.st_machine.specs.declared.work.Mode.{Mode}
@@ -21,7 +21,7 @@ use Rattle.st_machine.specs.declared.work.Mode.TheVariants as mode
 use Rattle.st_machine.specs.declared.work.Work.{Work}
 use Rattle.st_machine.specs.declared.work.Work.TheVariants as work
 use Rattle.st_machine.specs.Seen.{Seen}
-use Rattle.st_machine.specs.Steps.{advanced, advance_told}
+use Rattle.st_machine.specs.Steps.{advanced, advance_told, advance_written}
 use Rattle.st_machine.specs.Meaning.{top_of, events_of}
 use Rattle.st_machine.specs.Followed.{Ready, Moves, runs_in, Leads}
 use Rattle.st_machine.proofs.FollowsInstructions.{next_by}
@@ -29,10 +29,14 @@ use Rattle.st_machine.proofs.FollowsWorks.{applies, activates, enters}
 use Rattle.st_machine.proofs.FollowsInitializers.{keeps, next_opens}
 use Rattle.st_machine.proofs.FollowsSettling.{value_law, unwinding_law}
 use Rattle.st_machine.proofs.FollowsSignals.{raises, raises_new, fails}
+use Rattle.st_machine.proofs.FollowsSending.{sends, super_sends, value_sends, visits_on}
 use Rattle.st_machine.proofs.FollowsSearches.{searches, turns, asks}
 
-room_there : (room width : ℕ) → room ≡ width → 0 < width → nat_lt 0 room ≡ true
-room_there room width e l = grind (arith, nat_tests)
+enough : (room width : ℕ) → width ≤ room → 8 ≤ width → 2 ≤ room
+enough room width e l = omega (arith, e, l)
+
+room_there : (room width : ℕ) → width ≤ room → 8 ≤ width → nat_lt 0 room ≡ true
+room_there room width e l = lt-ltb 0 room (omega (arith, e, l))
 
 some : (n : ℕ) → 0 < suc n
 some n = omega arith
@@ -47,6 +51,19 @@ with s acts m = record { plan = s.plan; stack = record { acts = acts; next = s.s
 module _ (tr : Text) (ev : List Event) where
   abbrev Follows : Seen → Type 0
   Follows s = Ready s → Leads s (top_of tr ev s) (top_of tr (ev ++ events_of (advance_told s)) (advanced s))
+
+  abbrev Writes : Seen → Type 0
+  Writes s = Ready s → Leads s (top_of tr ev s) (top_of (tr ++ advance_written s) (ev ++ events_of (advance_told s)) (advanced s))
+
+  -- a step that writes nothing
+  quiet : (s : Seen) → advance_written s ≡ [] → Leads s (top_of tr ev s) (top_of tr (ev ++ events_of (advance_told s)) (advanced s)) → Leads s (top_of tr ev s) (top_of (tr ++ advance_written s) (ev ++ events_of (advance_told s)) (advanced s))
+  quiet s e l =
+      record {
+        count = l.count;
+        moves = l.moves;
+        counted = l.counted;
+        leads = l.leads ∙ ap (λ (t : Text). top_of t (ev ++ events_of (advance_told s)) (advanced s)) (sym (ap (λ (t : Text). tr ++ t) e ∙ append-nil tr));
+      }
 
   -- nothing more was told
   untold : (s : Seen) → top_of tr ev s ≡ top_of tr (ev ++ []) s
@@ -123,32 +140,52 @@ module _ (tr : Text) (ev : List Event) where
   abbrev beginning : Seen → Work → Seen
   beginning s w = with s s.stack.acts (mode.Begin w)
 
-  begins : (s : Seen) (w : Work) → Follows (beginning s w)
-  begins s (work.Apply v env) r = record { count = 1; moves = some 0; counted = refl; leads = applies s.plan s.stack.next s.stack.depth s.stack.width s.variables s.passed s.steps s.deepest s.initializers s.instructions tr ev s.stack.acts s.memory r.compiled r.depth r.numbers r.cells r.within r.roomy.variables v env ∙ untold (advanced (beginning s (work.Apply v env))) }
-  begins s (work.Activate c env) r = record { count = 1; moves = some 0; counted = refl; leads = activates s.plan s.stack.next s.stack.depth s.stack.width s.variables s.passed s.steps s.deepest s.initializers s.instructions tr ev s.stack.acts s.memory r.compiled r.depth r.numbers r.cells r.within r.roomy.variables c env ∙ untold (advanced (beginning s (work.Activate c env))) }
-  begins s (work.Enter code v env) r = record { count = 1; moves = some 0; counted = refl; leads = enters s.plan s.stack.next s.stack.depth s.stack.width s.variables s.passed s.steps s.deepest s.initializers s.instructions tr ev s.stack.acts s.memory r.compiled r.depth r.numbers r.cells r.within r.roomy.variables code v env ∙ untold (advanced (beginning s (work.Enter code v env))) }
-  begins s (work.SendValue v env) r = stays (beginning s (work.SendValue v env)) tt refl
-  begins s (work.SendTo selector v env) r = stays (beginning s (work.SendTo selector v env)) tt refl
-  begins s (work.SuperTo class selector v env) r = stays (beginning s (work.SuperTo class selector v env)) tt refl
+  -- a loop that stands gets a value
+  loop_goes_at : (s : Seen) (l : LoopState) (v : Value) (a : Standing) (acts : List Standing) → Writes (with s (a ∷ acts) (mode.Begin (work.Visit a.number l v a.env)))
+  loop_goes_at s l v a acts r =
+      let c = visits_on s.plan s.stack.next s.stack.depth s.stack.width s.variables s.passed s.steps s.deepest s.initializers s.instructions tr ev acts s.memory a.number a.kept a.env a.operands l v r.falling.0.env r.cells (enough s.passed.room s.stack.width r.passes r.space) r.sound in
+      record { count = suc c.more; moves = some c.more; counted = c.counted; leads = c.comes }
+
+  loop_goes : (s : Seen) (n : ℕ) (l : LoopState) (v : Value) (env : Env) (acts : List Standing) → Writes (with s acts (mode.Begin (work.Visit n l v env)))
+  loop_goes s n l v env [] r = absurd r.next.1
+  loop_goes s n l v env (a ∷ acts) r =
+      let At : ℕ → Env → Type 0 = λ n e. Writes (with s (a ∷ acts) (mode.Begin (work.Visit n l v e))) in
+      let at_env : At a.number env = subst (At a.number) r.next.1.1 (loop_goes_at s l v a acts) in
+      let at_number : At n env = subst (λ k. At k env) r.next.1.0 at_env in
+      at_number r
+
+  begins : (s : Seen) (w : Work) → Writes (beginning s w)
+  begins s (work.Apply v env) r = quiet (beginning s (work.Apply v env)) refl (record { count = 1; moves = some 0; counted = refl; leads = applies s.plan s.stack.next s.stack.depth s.stack.width s.variables s.passed s.steps s.deepest s.initializers s.instructions tr ev s.stack.acts s.memory r.compiled r.depth r.numbers r.cells r.within r.roomy.variables v env ∙ untold (advanced (beginning s (work.Apply v env))) })
+  begins s (work.Activate c env) r = quiet (beginning s (work.Activate c env)) refl (record { count = 1; moves = some 0; counted = refl; leads = activates s.plan s.stack.next s.stack.depth s.stack.width s.variables s.passed s.steps s.deepest s.initializers s.instructions tr ev s.stack.acts s.memory r.compiled r.depth r.numbers r.cells r.within r.roomy.variables c env ∙ untold (advanced (beginning s (work.Activate c env))) })
+  begins s (work.Enter code v env) r = quiet (beginning s (work.Enter code v env)) refl (record { count = 1; moves = some 0; counted = refl; leads = enters s.plan s.stack.next s.stack.depth s.stack.width s.variables s.passed s.steps s.deepest s.initializers s.instructions tr ev s.stack.acts s.memory r.compiled r.depth r.numbers r.cells r.within r.roomy.variables code v env ∙ untold (advanced (beginning s (work.Enter code v env))) })
+  begins s (work.SendValue v env) r =
+      let c = value_sends s.plan s.stack.next s.stack.depth s.stack.width s.variables s.passed s.steps s.deepest s.initializers s.instructions tr ev s.stack.acts s.memory r.depth r.numbers r.cells r.troubles r.falling (enough s.passed.room s.stack.width r.passes r.space) v env r.next.0 r.sound in
+      record { count = suc c.more; moves = some c.more; counted = c.counted; leads = c.comes }
+  begins s (work.SendTo selector v env) r =
+      let c = sends s.plan s.stack.next s.stack.depth s.stack.width s.variables s.passed s.steps s.deepest s.initializers s.instructions tr ev s.stack.acts s.memory r.depth r.numbers r.cells r.troubles r.falling (enough s.passed.room s.stack.width r.passes r.space) selector v env r.next.0 r.sound in
+      record { count = suc c.more; moves = some c.more; counted = c.counted; leads = c.comes }
+  begins s (work.SuperTo class selector v env) r =
+      let c = super_sends s.plan s.stack.next s.stack.depth s.stack.width s.variables s.passed s.steps s.deepest s.initializers s.instructions tr ev s.stack.acts s.memory r.depth r.numbers r.cells r.troubles r.falling (enough s.passed.room s.stack.width r.passes r.space) class selector v env r.next.0 r.sound in
+      record { count = suc c.more; moves = some c.more; counted = c.counted; leads = c.comes }
   begins s (work.Fail trouble env) r =
-      let c = fails s.plan s.stack.next s.stack.depth s.stack.width s.variables s.passed s.steps s.deepest s.initializers s.instructions tr ev s.stack.acts s.memory r.depth r.numbers r.cells trouble env r.next r.troubles in
-      record { count = suc c.more; moves = some c.more; counted = c.counted; leads = c.comes }
+      let c = fails s.plan s.stack.next s.stack.depth s.stack.width s.variables s.passed s.steps s.deepest s.initializers s.instructions tr ev s.stack.acts s.memory r.depth r.numbers r.cells trouble env r.next.0 r.troubles in
+      quiet (beginning s (work.Fail trouble env)) refl (record { count = suc c.more; moves = some c.more; counted = c.counted; leads = c.comes })
   begins s (work.Raise e env) r =
-      let c = raises s.plan s.stack.next s.stack.depth s.stack.width s.variables s.passed s.steps s.deepest s.initializers s.instructions tr ev s.stack.acts s.memory r.depth r.numbers r.cells e env r.next in
-      record { count = suc c.more; moves = some c.more; counted = c.counted; leads = c.comes }
+      let c = raises s.plan s.stack.next s.stack.depth s.stack.width s.variables s.passed s.steps s.deepest s.initializers s.instructions tr ev s.stack.acts s.memory r.depth r.numbers r.cells e env r.next.0 in
+      quiet (beginning s (work.Raise e env)) refl (record { count = suc c.more; moves = some c.more; counted = c.counted; leads = c.comes })
   begins s (work.RaiseNew class env) r =
-      let c = raises_new s.plan s.stack.next s.stack.depth s.stack.width s.variables s.passed s.steps s.deepest s.initializers s.instructions tr ev s.stack.acts s.memory r.depth r.numbers r.cells class env r.next in
-      record { count = suc c.more; moves = some c.more; counted = c.counted; leads = c.comes }
+      let c = raises_new s.plan s.stack.next s.stack.depth s.stack.width s.variables s.passed s.steps s.deepest s.initializers s.instructions tr ev s.stack.acts s.memory r.depth r.numbers r.cells class env r.next.0 in
+      quiet (beginning s (work.RaiseNew class env)) refl (record { count = suc c.more; moves = some c.more; counted = c.counted; leads = c.comes })
   begins s (work.Search x rest) r =
       let c = searches s.plan s.stack.next s.stack.depth s.stack.width s.variables s.passed s.steps s.deepest s.initializers s.instructions tr ev s.stack.acts s.memory r.depth r.numbers x rest (room_there s.passed.room s.stack.width r.passes r.space) r.falling in
-      record { count = suc c.more; moves = some c.more; counted = c.counted; leads = c.comes }
+      quiet (beginning s (work.Search x rest)) refl (record { count = suc c.more; moves = some c.more; counted = c.counted; leads = c.comes })
   begins s (work.TurnBy x entry outside) r =
-      let c = turns s.plan s.stack.next s.stack.depth s.stack.width s.variables s.passed s.steps s.deepest s.initializers s.instructions tr ev s.stack.acts s.memory r.depth r.numbers x outside r.next.1 entry r.compiled (room_there s.passed.room s.stack.width r.passes r.space) in
-      record { count = suc c.more; moves = some c.more; counted = c.counted; leads = c.comes }
+      let c = turns s.plan s.stack.next s.stack.depth s.stack.width s.variables s.passed s.steps s.deepest s.initializers s.instructions tr ev s.stack.acts s.memory r.depth r.numbers x outside r.next.0.1 entry r.compiled (room_there s.passed.room s.stack.width r.passes r.space) in
+      quiet (beginning s (work.TurnBy x entry outside)) refl (record { count = suc c.more; moves = some c.more; counted = c.counted; leads = c.comes })
   begins s (work.Ask w n t env) r =
-      let c = asks s.plan s.stack.next s.stack.depth s.stack.width s.variables s.passed s.steps s.deepest s.initializers s.instructions tr ev s.stack.acts s.memory r.depth r.numbers w n t env r.next.1 in
-      record { count = suc c.more; moves = some c.more; counted = c.counted; leads = c.comes }
-  begins s (work.Visit n l v env) r = stays (beginning s (work.Visit n l v env)) tt refl
+      let c = asks s.plan s.stack.next s.stack.depth s.stack.width s.variables s.passed s.steps s.deepest s.initializers s.instructions tr ev s.stack.acts s.memory r.depth r.numbers w n t env r.next.0.1 in
+      quiet (beginning s (work.Ask w n t env)) refl (record { count = suc c.more; moves = some c.more; counted = c.counted; leads = c.comes })
+  begins s (work.Visit n l v env) r = loop_goes s n l v env s.stack.acts r
 
   -- ---- the next initializer
 
@@ -156,14 +193,14 @@ module _ (tr : Text) (ev : List Event) where
   begins_next s [] r = record { count = 0; moves = tt; counted = refl; leads = next_opens s.plan s.stack.next s.stack.depth s.stack.width s.variables s.passed s.steps s.deepest s.initializers s.instructions tr ev s.memory r.initializers r.compiled r.depth r.numbers r.cells r.within r.roomy.variables ∙ untold (advanced (with s [] mode.Next)) }
   begins_next s (a ∷ acts) r = let none : ⊥ = grind (arith, r.next) in absurd none
 
-  by_mode : (s : Seen) (m : Mode) → Follows (with s s.stack.acts m)
-  by_mode s mode.Run r = runs s s.stack.acts r
-  by_mode s (mode.Settle (outcome.Answer v)) r = answers s v s.stack.acts r
-  by_mode s (mode.Settle (outcome.Go t v)) r = unwinds s t v s.stack.acts r
-  by_mode s (mode.Settle (outcome.Stop l)) r = stops s l r
+  by_mode : (s : Seen) (m : Mode) → Writes (with s s.stack.acts m)
+  by_mode s mode.Run r = quiet (with s s.stack.acts mode.Run) refl (runs s s.stack.acts r)
+  by_mode s (mode.Settle (outcome.Answer v)) r = quiet (with s s.stack.acts (mode.Settle (outcome.Answer v))) refl (answers s v s.stack.acts r)
+  by_mode s (mode.Settle (outcome.Go t v)) r = quiet (with s s.stack.acts (mode.Settle (outcome.Go t v))) refl (unwinds s t v s.stack.acts r)
+  by_mode s (mode.Settle (outcome.Stop l)) r = quiet (with s s.stack.acts (mode.Settle (outcome.Stop l))) refl (stops s l r)
   by_mode s (mode.Begin w) r = begins s w r
-  by_mode s mode.Next r = begins_next s s.stack.acts r
-  by_mode s (mode.Ended e) r = stays (with s s.stack.acts (mode.Ended e)) tt refl
+  by_mode s mode.Next r = quiet (with s s.stack.acts mode.Next) refl (begins_next s s.stack.acts r)
+  by_mode s (mode.Ended e) r = quiet (with s s.stack.acts (mode.Ended e)) refl (stays (with s s.stack.acts (mode.Ended e)) tt refl)
 
-pub follows : (s : Seen) (tr : Text) (ev : List Event) → Ready s → Leads s (top_of tr ev s) (top_of tr (ev ++ events_of (advance_told s)) (advanced s))
+pub follows : (s : Seen) (tr : Text) (ev : List Event) → Ready s → Leads s (top_of tr ev s) (top_of (tr ++ advance_written s) (ev ++ events_of (advance_told s)) (advanced s))
 follows s tr ev r = by_mode tr ev s s.mode r

@@ -20,12 +20,11 @@ use Rattle.st_rules.specs.State.{State, FoundTurn, NoTurn, TurnAt, turn_of as in
 use Rattle.st_rules.specs.Machine.{Mach, marks, resignal_as_act, control_by_act, control_without_act, control_in_act, control_act}
 use Rattle.st_rules.specs.Flat.{FlatBody, flat, flat_number}
 use Rattle.st_rules.specs.Turns.{Top, On}
-use Rattle.st_machine.specs.declared.controls.Control.{Control}
-use Rattle.st_machine.specs.declared.controls.Control.TheVariants as control
+use Rattle.st_code.specs.Messages.{Control}
 use Rattle.st_machine.specs.declared.work.Mode.{Mode}
 use Rattle.st_machine.specs.Seen.{Plan, Passed, Seen}
 use Rattle.st_machine.specs.Plans.{program_in}
-use Rattle.st_machine.specs.Controls.{resignaled_as, controlled_by, control_told_by, controlled_without, controlled_in, control_told_in, controlled_at, control_told_at, controlled, control_told, control_of}
+use Rattle.st_machine.specs.Controls.{resignaled_as, controlled_by, control_told_by, controlled_without, controlled_in, control_told_in, controlled_at, control_told_at, controlled, control_told}
 use Rattle.st_machine.specs.Meaning.{top_of, state_of, acts_of, env_of, entry_named, turn_of, events_of, target_in, behind}
 use Rattle.st_machine.specs.Followed.{Falling, TurnBelow, KeptBelow}
 use Rattle.st_machine.proofs.Links.{same_eq, turn_skip}
@@ -125,34 +124,34 @@ module _ (plan : Plan) (next depth width : ℕ) (vars : List Value) (passed : Pa
     resignals t (value.Meta n) = untold (resignaled_as t (value.Meta n) env here)
     resignals t value.Transcript = untold (resignaled_as t value.Transcript env here)
 
-    controls_by : (c : Control) (k : ℕ) (t : linked.Turn) (entry : ℕ) → goes (control_by_act (flat p plan.codes width) p (control_of c) v k (turn_of acts t) (entry_named acts entry) (env_of acts env) (acts_of acts) state) ≡ top_of tr (ev ++ events_of (control_told_by c k)) (controlled_by c v k t entry env here)
+    controls_by : (c : Control) (k : ℕ) (t : linked.Turn) (entry : ℕ) → goes (control_by_act (flat p plan.codes width) p c v k (turn_of acts t) (entry_named acts entry) (env_of acts env) (acts_of acts) state) ≡ top_of tr (ev ++ events_of (control_told_by c k)) (controlled_by c v k t entry env here)
     unfolding entry_named
-    controls_by control.Return k t entry = untold (controlled_by control.Return v k t entry env here)
-    controls_by control.Retry k t entry = untold (controlled_by control.Retry v k t entry env here)
-    controls_by control.RetryUsing k t entry = untold (controlled_by control.RetryUsing v k t entry env here)
-    controls_by control.Resume k t entry = untold (controlled_by control.Resume v k t entry env here)
-    controls_by control.Pass k t entry = refl
-    controls_by control.Outer k t entry = untold (controlled_by control.Outer v k t entry env here)
-    controls_by control.ResignalAs k t entry = resignals t v
-    controls_by control.IsNested k t entry = refl
+    controls_by Control.Return k t entry = untold (controlled_by Control.Return v k t entry env here)
+    controls_by Control.Retry k t entry = untold (controlled_by Control.Retry v k t entry env here)
+    controls_by Control.RetryUsing k t entry = untold (controlled_by Control.RetryUsing v k t entry env here)
+    controls_by Control.Resume k t entry = untold (controlled_by Control.Resume v k t entry env here)
+    controls_by Control.Pass k t entry = refl
+    controls_by Control.Outer k t entry = untold (controlled_by Control.Outer v k t entry env here)
+    controls_by Control.ResignalAs k t entry = resignals t v
+    controls_by Control.IsNested k t entry = refl
 
-    controls_without : (c : Control) (k : ℕ) (t : linked.Turn) → goes (control_without_act (flat p plan.codes width) p (control_of c) v k (turn_of acts t) (env_of acts env) (acts_of acts) state) ≡ top_of tr (ev ++ []) (controlled_without c v k t env here)
-    controls_without control.Return k t = untold (controlled_without control.Return v k t env here)
-    controls_without control.Retry k t = untold (controlled_without control.Retry v k t env here)
-    controls_without control.RetryUsing k t = untold (controlled_without control.RetryUsing v k t env here)
-    controls_without control.Resume k t = untold (controlled_without control.Resume v k t env here)
-    controls_without control.Pass k t = untold (controlled_without control.Pass v k t env here)
-    controls_without control.Outer k t = untold (controlled_without control.Outer v k t env here)
-    controls_without control.ResignalAs k t = untold (controlled_without control.ResignalAs v k t env here)
-    controls_without control.IsNested k t = untold (controlled_without control.IsNested v k t env here)
+    controls_without : (c : Control) (k : ℕ) (t : linked.Turn) → goes (control_without_act (flat p plan.codes width) p c v k (turn_of acts t) (env_of acts env) (acts_of acts) state) ≡ top_of tr (ev ++ []) (controlled_without c v k t env here)
+    controls_without Control.Return k t = untold (controlled_without Control.Return v k t env here)
+    controls_without Control.Retry k t = untold (controlled_without Control.Retry v k t env here)
+    controls_without Control.RetryUsing k t = untold (controlled_without Control.RetryUsing v k t env here)
+    controls_without Control.Resume k t = untold (controlled_without Control.Resume v k t env here)
+    controls_without Control.Pass k t = untold (controlled_without Control.Pass v k t env here)
+    controls_without Control.Outer k t = untold (controlled_without Control.Outer v k t env here)
+    controls_without Control.ResignalAs k t = untold (controlled_without Control.ResignalAs v k t env here)
+    controls_without Control.IsNested k t = untold (controlled_without Control.IsNested v k t env here)
 
-    controls_in : (entry : Option ℕ) (c : Control) (k : ℕ) (t : linked.Turn) → goes (control_in_act (flat p plan.codes width) p (option_map (entry_named acts) entry) (control_of c) v k (turn_of acts t) (env_of acts env) (acts_of acts) state) ≡ top_of tr (ev ++ events_of (control_told_in entry c k)) (controlled_in entry c v k t env here)
+    controls_in : (entry : Option ℕ) (c : Control) (k : ℕ) (t : linked.Turn) → goes (control_in_act (flat p plan.codes width) p (option_map (entry_named acts) entry) c v k (turn_of acts t) (env_of acts env) (acts_of acts) state) ≡ top_of tr (ev ++ events_of (control_told_in entry c k)) (controlled_in entry c v k t env here)
     controls_in (Some entry) c k t = controls_by c k t entry
     controls_in None c k t = controls_without c k t
 
-    controls_at : (o : Option found.FoundTurn) (c : Control) → goes (control_act (flat p plan.codes width) p (found_of acts o) (control_of c) v (env_of acts env) (acts_of acts) state) ≡ top_of tr (ev ++ events_of (control_told_at o c)) (controlled_at o c v env here)
+    controls_at : (o : Option found.FoundTurn) (c : Control) → goes (control_act (flat p plan.codes width) p (found_of acts o) c v (env_of acts env) (acts_of acts) state) ≡ top_of tr (ev ++ events_of (control_told_at o c)) (controlled_at o c v env here)
     controls_at None c = untold (controlled_at None c v env here)
     controls_at (Some f) c = controls_in f.turn.entry c f.number f.turn
 
-    pub controls : (c : Control) (e : ℕ) → Falling next acts → goes (control_act (flat p plan.codes width) p (innermost e (marks flat_number (acts_of acts))) (control_of c) v (env_of acts env) (acts_of acts) state) ≡ top_of tr (ev ++ events_of (control_told c e here)) (controlled c e v env here)
+    pub controls : (c : Control) (e : ℕ) → Falling next acts → goes (control_act (flat p plan.codes width) p (innermost e (marks flat_number (acts_of acts))) c v (env_of acts env) (acts_of acts) state) ≡ top_of tr (ev ++ events_of (control_told c e here)) (controlled c e v env here)
     controls c e falling = rw (innermost_turn e next acts falling).same (controls_at (turn_in e acts) c)

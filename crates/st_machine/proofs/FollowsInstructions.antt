@@ -51,7 +51,7 @@ module _ (plan : Plan) (next depth width : ℕ) (mem : Memory) (vars : List Valu
     abbrev Law : Instruction → Type 0
     Law i = On (target_in (program_in plan) inits) (behind (program_in plan) inits) (flat_instruction (program_in plan) plan.codes width i (body_of acts f n env ops) (acts_of acts) (state_of tr ev here)) ≡ top_of tr ev (performed i f here)
 
-    module _ (moves : min (f.position + 1) (2 ^ 32 - 1) ≡ f.position + 1) (below : env.0 < n) (cells : mem.limit ≡ (program_in plan).cell_limit) (passes : passed.room ≡ width) where
+    module _ (moves : min (f.position + 1) (2 ^ 32 - 1) ≡ f.position + 1) (below : env.0 < n) (cells : mem.limit ≡ (program_in plan).cell_limit) (passes : width ≤ passed.room) where
       constant : (c : Constant) → Law (instruction.PushConstant c)
       constant c = rw moves refl
 
@@ -87,7 +87,7 @@ module _ (plan : Plan) (next depth width : ℕ) (mem : Memory) (vars : List Valu
       write (variable.Shared k) = rw moves refl
 
       fits : (count : ℕ) → count ≤ width → min count passed.room ≡ count
-      fits count l = rw passes (omega (arith, l))
+      fits count l = omega (arith, l, passes)
 
       send : (selector count : ℕ) → count ≤ width → Law (instruction.Send selector count)
       send selector count l = rw (fits count l, taken_top count (record { number = n; kept = act.Body f; env = env; operands = ops }) acts next depth width ops []) (rw env_skip' refl)

@@ -16,7 +16,7 @@ use Rattle.st_contexts.specs.declared.activation.Turn as linked
 use Rattle.st_contexts.specs.declared.activation.Wait as waiting
 use Rattle.st_contexts.specs.declared.activation.Wait.TheVariants as wait
 use Rattle.st_contexts.specs.declared.activation.SearchState.{SearchState}
-use Rattle.st_contexts.specs.declared.activation.LoopState.{LoopState}
+use Rattle.st_loops.specs.declared.state.LoopState.{LoopState}
 use Rattle.st_contexts.specs.declared.outcome.Outcome as hand
 use Rattle.st_contexts.specs.declared.outcome.Outcome.TheVariants as outcome
 use Rattle.st_contexts.specs.declared.outcome.Target as aim

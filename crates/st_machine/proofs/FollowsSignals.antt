@@ -60,7 +60,7 @@ live_same e (a ∷ acts) = live_here a.kept a.number a.env a.operands acts e (ma
 pub two : (ev : List Event) (d e : Event) → (ev ++ d ∷ []) ++ e ∷ [] ≡ ev ++ d ∷ e ∷ []
 two ev d e = append_assoc ev (d ∷ []) (e ∷ [])
 
-charge_same : (n : ℕ) → object_charge n 0 ≡ 1 + n
+pub charge_same : (n : ℕ) → object_charge n 0 ≡ 1 + n
 charge_same n = omega arith
 
 module _ (plan : Plan) (next depth width : ℕ) (vars : List Value) (passed : Passed) (steps deepest inits instrs : ℕ) (tr : Text) (ev : List Event) (acts : List Standing) (mem : Memory) where

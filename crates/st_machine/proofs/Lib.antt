@@ -13,5 +13,11 @@ pub mod FollowsSettling
 pub mod FollowsSignals
 pub mod FollowsSearches
 pub mod FollowsControls
+pub mod SmallVisits
+pub mod LoopStates
+pub mod FollowsLoops
+pub mod FollowsPerforming
+pub mod FollowsSending
 pub mod Follows
 pub mod Telling
+pub mod Replied

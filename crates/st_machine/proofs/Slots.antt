@@ -92,3 +92,15 @@ exception_store p class vs s =
     put_values (class_at p class).slots vs class (class_at p class).slots s.objects s.closures s.scopes []
     ∙ ap (λ n. with_last s.objects s.closures s.scopes (object_of class n (padded (class_at p class).slots vs))) (sym (padded_length (class_at p class).slots vs))
     ∙ ap (λ ws. with_last s.objects s.closures s.scopes (object_of class (length ws) ws)) (padded_is (class_at p class).slots vs)
+
+padded_all : (vs : List Value) → padded (length vs) vs ≡ vs
+unfolding padded
+padded_all [] = refl
+padded_all (v ∷ vs) = ap (λ r. v ∷ r) (padded_all vs)
+
+-- an object whose slots these values are
+pub filled_object : (class : ℕ) (vs : List Value) (s : Store) → slots_put (length vs) vs (length s.objects) 0 (object_added (blank_object class (length vs) 0) s) ≡ with_new class vs [] s
+unfolding with_new
+filled_object class vs s =
+    put_values (length vs) vs class (length vs) s.objects s.closures s.scopes []
+    ∙ ap (λ ws. with_last s.objects s.closures s.scopes (object_of class (length vs) ws)) (padded_all vs)

@@ -1,10 +1,17 @@
 -- What was told so far, and what is told when small steps go on, end or break off.
-use Rattle.std.proofs.Common.{◌≡◌, ℕ, suc, zero, ◌+◌, ◌-◌, ◌<◌, List, [], ◌∷◌, ◌++◌, length, take, slice_get, true, false, Option, Some, None, Result, Ok, Err, OnErr, refl, ap, sym, ◌∙◌, arith}
-use Rattle.std.proofs.lemmas.List.{append-nil, append_assoc}
+use Rattle.std.proofs.Common.{◌≡◌, ℕ, suc, zero, ◌+◌, ◌-◌, ◌<◌, List, [], ◌∷◌, ◌++◌, length, take, slice_get, true, false, Option, Some, None, Result, Ok, Err, OnOk, OnErr, refl, ap, sym, ◌∙◌, arith}
+use Rattle.std.specs.Io.KnownBytes.{append_known}
+use Rattle.std.proofs.lemmas.List.{append-nil, append_assoc, take_all}
+use Rattle.st_base.specs.Streams.{GainsPrefix, Rose, HasCause}
+use Rattle.st_base.specs.declared.streams.Failed.{Failed}
+use Rattle.st_transcript.proofs.Gaining.{Wrote, wrote_first, wrote_more, wrote_last, wrote_part}
+use Rattle.st_code.specs.Texts.{Text}
 use Rattle.st_contexts.specs.declared.watch.Event.{Event}
 use Rattle.st_machine.specs.Seen.{Seen}
-use Rattle.st_machine.specs.Steps.{advanced, advance_told}
-use Rattle.st_machine.specs.Running.{listed, all_seen, BreaksOff, goes_on, left_after, gone, gone_told}
+use Rattle.st_machine.specs.declared.running.Progress.{Progress}
+use Rattle.st_machine.specs.declared.running.Progress.TheVariants as progress
+use Rattle.st_machine.specs.Steps.{advanced, advance_told, advance_written}
+use Rattle.st_machine.specs.Running.{listed, all_seen, BreaksOff, SinkSeen, WatchSeen, watch_seen, AllRan, PartRan, stops_writing, stops_telling, Ran, goes_on, left_after, gone, gone_told, gone_written, OnProgress, OnFault}
 
 -- ---- small steps
 
@@ -35,6 +42,9 @@ pub told_steps : (n left : ℕ) (s : Seen) → 0 < n → goes_on s.mode left ≡
 unfolding gone_told
 told_steps zero left s l e = let none : ⊥ = omega (arith, l) in absurd none
 told_steps (suc n) left s l e = let back : suc n - 1 ≡ n = omega arith in rw (e, back) refl
+
+pub goes_further : (n left : ℕ) (s : Seen) (left' : ℕ) (s' end : Seen) → 0 < n → goes_on s.mode left ≡ true → left' ≡ left_after s.mode left → s' ≡ advanced s → gone n left s ≡ end → gone (n - 1) left' s' ≡ end
+goes_further n left s left' s' end l e more next h = rw (more, next) (sym (gone_steps n left s l e) ∙ h)
 
 -- ---- what was told
 
@@ -99,24 +109,111 @@ going_breaks total more rest before seen after broken g b =
       behind = b.behind ∙ rw g.split (sym (get_behind g.prior (more ++ rest) b.count ∙ get_first more rest b.count b.within));
     }
 
--- ---- one small step of a loop
-
-module _ (n left : ℕ) (s : Seen) where
-  pub stands_on : (left' : ℕ) (s' end : Seen) → 0 < n → goes_on s.mode left ≡ true → left' ≡ left_after s.mode left → s' ≡ advanced s → gone n left s ≡ end → gone (n - 1) left' s' ≡ end
-  stands_on left' s' end l e more next h = rw (more, next) (sym (gone_steps n left s l e) ∙ h)
-
-  pub tells_on : (left' : ℕ) (s' : Seen) (total : List Event) (before seen after : Option (List Event)) → 0 < n → goes_on s.mode left ≡ true → left' ≡ left_after s.mode left → s' ≡ advanced s → Going total (gone_told n left s) before seen → after ≡ all_seen (listed (advance_told s)) seen → Going total (gone_told (n - 1) left' s') before after
-  tells_on left' s' total before seen after l e more next g h = rw (more, next) (going_more total (listed (advance_told s)) (gone_told (n - 1) (left_after s.mode left) (advanced s)) before seen after (rw (told_steps n left s l e) at g) h)
-
-  pub breaks_off : (total : List Event) (before seen after : Option (List Event)) (broken : Option Event) → 0 < n → goes_on s.mode left ≡ true → Going total (gone_told n left s) before seen → BreaksOff (listed (advance_told s)) seen after broken → BreaksOff total before after broken
-  breaks_off total before seen after broken l e g b = going_breaks total (listed (advance_told s)) (gone_told (n - 1) (left_after s.mode left) (advanced s)) before seen after broken (rw (told_steps n left s l e) at g) b
-
-  pub told_all : (total : List Event) (before seen : Option (List Event)) → goes_on s.mode left ≡ false → Going total (gone_told n left s) before seen → seen ≡ all_seen total before
-  told_all total before seen e g = going_last total before seen (rw (told_stops n left s e) at g)
-
-  pub told_most : (total : List Event) (before seen : Option (List Event)) → n ≡ 0 → Going total (gone_told n left s) before seen → seen ≡ all_seen total before
-  told_most total before seen e g = going_last total before seen (rw (told_ends n left s e) at g)
-
 pub on_err : {T E : Type 0} (result : Result T E) (P : Type 0) → P → OnErr result P
 on_err (Ok x) P holds = tt
 on_err (Err e) P holds = holds
+
+-- ---- a small step that writes and tells
+
+pub writes_stops : (n left : ℕ) (s : Seen) → goes_on s.mode left ≡ false → gone_written n left s ≡ []
+unfolding gone_written
+writes_stops zero left s e = refl
+writes_stops (suc n) left s e = rw e refl
+
+pub writes_ends : (n left : ℕ) (s : Seen) → n ≡ 0 → gone_written n left s ≡ []
+unfolding gone_written
+writes_ends n left s e = rw e refl
+
+pub writes_steps : (n left : ℕ) (s : Seen) → 0 < n → goes_on s.mode left ≡ true → gone_written n left s ≡ advance_written s ++ gone_written (n - 1) (left_after s.mode left) (advanced s)
+unfolding gone_written
+writes_steps zero left s l e = let none : ⊥ = omega (arith, l) in absurd none
+writes_steps (suc n) left s l e = let back : suc n - 1 ≡ n = omega arith in rw (e, back) refl
+
+-- what a step writes fails
+pub fails_to_write : (text : Text) (events : List Event) (k k' : SinkSeen) (w : WatchSeen) → GainsPrefix k.written k'.written text → Rose k.faults k'.faults → w.broken ≡ None → PartRan text events k k' w w
+fails_to_write text events k k' w part rose broken = stops_writing part rose [] events refl (all_none w.seen) broken refl
+
+-- what a step writes is written, and its events are told or not
+pub ran_by : (text : Text) (events : List Event) (k k' : SinkSeen) (w w' : WatchSeen) (r : Result (Unit {0}) Failed) → k'.written ≡ append_known k.written text → k'.faults ≡ k.faults
+    → OnOk r (w'.seen ≡ all_seen events w.seen) → OnOk r (w'.broken ≡ None) → OnErr r (BreaksOff events w.seen w'.seen w'.broken) → HasCause w.faults w'.faults r → Ran text events k k' w w' r
+ran_by text events k k' w w' (Ok x) wrote sound told whole part cause = record { wrote = wrote; sound = sound; told = told; whole = whole; awake = cause.kept }
+ran_by text events k k' w w' (Err e) wrote sound told whole part cause = stops_telling (length text, wrote ∙ ap (append_known k.written) (sym (take_all (length text) text (omega arith)))) sound part cause.failed
+
+-- ---- many of them
+
+-- so much was written and told, and nothing failed
+pub record Running (text rest : Text) (events left : List Event) (k k' : SinkSeen) (w w' : WatchSeen) : Type 0 where
+  pub wrote : Wrote text rest k.written k'.written
+  pub going : Going events left w.seen w'.seen
+  pub sound : k'.faults ≡ k.faults
+  pub whole : w'.broken ≡ None
+  pub awake : w'.faults ≡ w.faults
+
+module _ (text : Text) (events : List Event) (k k1 k2 : SinkSeen) (w w1 w2 : WatchSeen) where
+  pub runs_on : (more rest : Text) (these left : List Event) → Running text (more ++ rest) events (these ++ left) k k1 w w1 → AllRan more these k1 k2 w1 w2 → Running text rest events left k k2 w w2
+  runs_on more rest these left r a =
+      record {
+        wrote = wrote_more text more rest k.written k1.written k2.written r.wrote a.wrote;
+        going = going_more events these left w.seen w1.seen w2.seen r.going a.told;
+        sound = a.sound ∙ r.sound;
+        whole = a.whole;
+        awake = a.awake ∙ r.awake;
+      }
+
+  pub part_on : (more rest : Text) (these left : List Event) → Running text (more ++ rest) events (these ++ left) k k1 w w1 → PartRan more these k1 k2 w1 w2 → PartRan text events k k2 w w2
+  part_on more rest these left r (stops_writing part rose first behind split told broken awake) =
+      stops_writing (wrote_part text more rest k.written k1.written k2.written r.wrote part) (rw r.sound at rose) (r.going.prior ++ first) (behind ++ left)
+      (r.going.split ∙ ap (λ (es : List Event). r.going.prior ++ (es ++ left)) split ∙ ap (λ (es : List Event). r.going.prior ++ es) (append_assoc first behind left) ∙ sym (append_assoc r.going.prior first (behind ++ left)))
+      (told ∙ ap (all_seen first) r.going.told ∙ all_more r.going.prior first w.seen) broken (awake ∙ r.awake)
+  part_on more rest these left r (stops_telling part sound breaks rose) =
+      stops_telling (wrote_part text more rest k.written k1.written k2.written r.wrote part) (sound ∙ r.sound) (going_breaks events these left w.seen w1.seen w2.seen w2.broken r.going breaks) (rw r.awake at rose)
+
+pub runs_out : (text : Text) (events : List Event) (k k1 : SinkSeen) (w w1 : WatchSeen) → Running text [] events [] k k1 w w1 → AllRan text events k k1 w w1
+runs_out text events k k1 w w1 r = record { wrote = wrote_last text k.written k1.written r.wrote; sound = r.sound; told = going_last events w.seen w1.seen r.going; whole = r.whole; awake = r.awake }
+
+pub runs_first : (text : Text) (events : List Event) (k : SinkSeen) (w : WatchSeen) → w.broken ≡ None → Running text text events events k k w w
+runs_first text events k w whole = record { wrote = wrote_first text text k.written refl; going = going_first events w.seen; sound = refl; whole = whole; awake = refl }
+
+-- ---- one small step of a loop that writes and tells
+
+module _ (n left : ℕ) (s : Seen) (text : Text) (events : List Event) (k k1 k2 : SinkSeen) (w w1 w2 : WatchSeen) where
+  abbrev So : Type 0
+  So = Running text (gone_written n left s) events (gone_told n left s) k k1 w w1
+
+  split_so : 0 < n → goes_on s.mode left ≡ true → So → Running text (advance_written s ++ gone_written (n - 1) (left_after s.mode left) (advanced s)) events (listed (advance_told s) ++ gone_told (n - 1) (left_after s.mode left) (advanced s)) k k1 w w1
+  split_so l e r = rw (writes_steps n left s l e, told_steps n left s l e) at r
+
+  pub step_runs : (left' : ℕ) (s' : Seen) → 0 < n → goes_on s.mode left ≡ true → left' ≡ left_after s.mode left → s' ≡ advanced s → So → AllRan (advance_written s) (listed (advance_told s)) k1 k2 w1 w2 → Running text (gone_written (n - 1) left' s') events (gone_told (n - 1) left' s') k k2 w w2
+  step_runs left' s' l e more next r a =
+      rw (more, next) (runs_on text events k k1 k2 w w1 w2 (advance_written s) (gone_written (n - 1) (left_after s.mode left) (advanced s)) (listed (advance_told s)) (gone_told (n - 1) (left_after s.mode left) (advanced s)) (split_so l e r) a)
+
+  pub step_breaks : 0 < n → goes_on s.mode left ≡ true → So → PartRan (advance_written s) (listed (advance_told s)) k1 k2 w1 w2 → PartRan text events k k2 w w2
+  step_breaks l e r a =
+      part_on text events k k1 k2 w w1 w2 (advance_written s) (gone_written (n - 1) (left_after s.mode left) (advanced s)) (listed (advance_told s)) (gone_told (n - 1) (left_after s.mode left) (advanced s)) (split_so l e r) a
+
+module _ (n left : ℕ) (s : Seen) (text : Text) (events : List Event) (k k1 : SinkSeen) (w w1 : WatchSeen) where
+  pub stops_here : goes_on s.mode left ≡ false → Running text (gone_written n left s) events (gone_told n left s) k k1 w w1 → AllRan text events k k1 w w1
+  stops_here e r = runs_out text events k k1 w w1 (rw (writes_stops n left s e, told_stops n left s e) at r)
+
+  pub ends_here : n ≡ 0 → Running text (gone_written n left s) events (gone_told n left s) k k1 w w1 → AllRan text events k k1 w w1
+  ends_here e r = runs_out text events k k1 w w1 (rw (writes_ends n left s e, told_ends n left s e) at r)
+
+-- ---- a run of whose events nobody is told
+
+pub on_progress : (r : Progress) (P Q : Type 0) → (P → Q) → OnProgress r P → OnProgress r Q
+on_progress progress.Running P Q f h = f h
+on_progress (progress.Ended e) P Q f h = f h
+on_progress progress.WriteFault P Q f h = tt
+
+pub on_fault : (r : Progress) (P Q : Type 0) → (P → Q) → OnFault r P → OnFault r Q
+on_fault progress.Running P Q f h = tt
+on_fault (progress.Ended e) P Q f h = tt
+on_fault progress.WriteFault P Q f h = f h
+
+pub unwatched_part : (text : Text) (events : List Event) (k k' : SinkSeen) → PartRan text events k k' (watch_seen None None 0) (watch_seen None None 0) → GainsPrefix k.written k'.written text
+unwatched_part text events k k' (stops_writing part rose first rest split told broken awake) = part
+unwatched_part text events k k' (stops_telling part sound breaks rose) = part
+
+pub unwatched_cause : (text : Text) (events : List Event) (k k' : SinkSeen) → PartRan text events k k' (watch_seen None None 0) (watch_seen None None 0) → Rose k.faults k'.faults
+unwatched_cause text events k k' (stops_writing part rose first rest split told broken awake) = rose
+unwatched_cause text events k k' (stops_telling part sound breaks rose) = absurd (let none : ⊥ = omega (arith, rose) in none)

@@ -3,7 +3,7 @@ use Rattle.std.specs.Prelude.{ℕ, Bool, true, false, Option, Some, None}
 use Rattle.object_heap.specs.declared.value.Value.{Value}
 use Rattle.object_heap.specs.declared.value.Value.TheVariants.{Nil, Object}
 use Rattle.object_heap.specs.declared.trouble.Trouble.TheVariants.{ExceptionExpected, AlreadySignaled, NotActive}
-use Rattle.st_code.specs.Messages.{Control as Message}
+use Rattle.st_code.specs.Messages.{Control}
 use Rattle.st_code.specs.Lookup.{is_exception}
 use Rattle.st_contexts.specs.declared.activation.Env.{Env}
 use Rattle.st_contexts.specs.declared.activation.Turn.{Turn}
@@ -14,8 +14,6 @@ use Rattle.st_contexts.specs.declared.outcome.Target.TheVariants as target
 use Rattle.st_contexts.specs.declared.watch.Event.TheVariants as event
 use Rattle.signal_env.specs.declared.turns.FoundTurn.{FoundTurn}
 use Rattle.signal_env.specs.Turns.{turn_in, live_in}
-use Rattle.st_machine.specs.declared.controls.Control.{Control}
-use Rattle.st_machine.specs.declared.controls.Control.TheVariants as control
 use Rattle.st_machine.specs.declared.work.Told.{Told}
 use Rattle.st_machine.specs.declared.work.Told.TheVariants.{Nothing, One}
 use Rattle.st_machine.specs.declared.work.Work.TheVariants as work
@@ -23,17 +21,6 @@ use Rattle.st_machine.specs.Seen.{Seen}
 use Rattle.st_machine.specs.Plans.{program_in}
 use Rattle.st_machine.specs.Opening.{settling, beginning}
 use Rattle.st_machine.specs.Settling.{search_of, searching}
-
--- a message as the table of messages has it
-abbrev pub control_of : Control → Message
-control_of control.Return = Message.Return
-control_of control.Retry = Message.Retry
-control_of control.RetryUsing = Message.RetryUsing
-control_of control.Resume = Message.Resume
-control_of control.Pass = Message.Pass
-control_of control.Outer = Message.Outer
-control_of control.ResignalAs = Message.ResignalAs
-control_of control.IsNested = Message.IsNested
 
 -- ---- `resignalAs:`
 
@@ -49,27 +36,27 @@ resignaled_as t v env s = beginning (work.Fail ExceptionExpected env) s
 -- ---- a turn with its number k; one with an entry takes each message, and a default action only `resume`
 
 abbrev pub controlled_by : Control → Value → ℕ → Turn → (entry : ℕ) → Env → Seen → Seen
-controlled_by control.Return v k t entry env s = settling (Go (target.Protected entry) v) s
-controlled_by control.Retry v k t entry env s = settling (Go (target.Retry entry) Nil) s
-controlled_by control.RetryUsing v k t entry env s = settling (Go (target.RetryWith entry) v) s
-controlled_by control.Resume v k t entry env s = beginning (work.Ask (wait.Resume v) k t env) s
-controlled_by control.Pass v k t entry env s = searching (search_of k t (purpose.Pass t)) s
-controlled_by control.Outer v k t entry env s = beginning (work.Ask wait.Outer k t env) s
-controlled_by control.ResignalAs v k t entry env s = resignaled_as t v env s
-controlled_by control.IsNested v k t entry env s = searching (search_of k t purpose.IsNested) s
+controlled_by Control.Return v k t entry env s = settling (Go (target.Protected entry) v) s
+controlled_by Control.Retry v k t entry env s = settling (Go (target.Retry entry) Nil) s
+controlled_by Control.RetryUsing v k t entry env s = settling (Go (target.RetryWith entry) v) s
+controlled_by Control.Resume v k t entry env s = beginning (work.Ask (wait.Resume v) k t env) s
+controlled_by Control.Pass v k t entry env s = searching (search_of k t (purpose.Pass t)) s
+controlled_by Control.Outer v k t entry env s = beginning (work.Ask wait.Outer k t env) s
+controlled_by Control.ResignalAs v k t entry env s = resignaled_as t v env s
+controlled_by Control.IsNested v k t entry env s = searching (search_of k t purpose.IsNested) s
 
 abbrev pub control_told_by : Control → ℕ → Told
-control_told_by control.Return k = Nothing
-control_told_by control.Retry k = Nothing
-control_told_by control.RetryUsing k = Nothing
-control_told_by control.Resume k = Nothing
-control_told_by control.Pass k = One (event.Search k)
-control_told_by control.Outer k = Nothing
-control_told_by control.ResignalAs k = Nothing
-control_told_by control.IsNested k = One (event.Search k)
+control_told_by Control.Return k = Nothing
+control_told_by Control.Retry k = Nothing
+control_told_by Control.RetryUsing k = Nothing
+control_told_by Control.Resume k = Nothing
+control_told_by Control.Pass k = One (event.Search k)
+control_told_by Control.Outer k = Nothing
+control_told_by Control.ResignalAs k = Nothing
+control_told_by Control.IsNested k = One (event.Search k)
 
 abbrev pub controlled_without : Control → Value → ℕ → Turn → Env → Seen → Seen
-controlled_without control.Resume v k t env s = beginning (work.Ask (wait.Resume v) k t env) s
+controlled_without Control.Resume v k t env s = beginning (work.Ask (wait.Resume v) k t env) s
 controlled_without _ v k t env s = beginning (work.Fail NotActive env) s
 
 abbrev pub controlled_in : Option ℕ → Control → Value → ℕ → Turn → Env → Seen → Seen

@@ -10,7 +10,9 @@ use Rattle.st_contexts.specs.declared.activation.Purpose.{Purpose}
 use Rattle.st_contexts.specs.declared.activation.Purpose.TheVariants as purpose
 use Rattle.st_contexts.specs.declared.activation.SearchState.{SearchState}
 use Rattle.st_contexts.specs.declared.activation.Turn.{Turn}
+use Rattle.st_contexts.specs.declared.activation.Env.{Env}
 use Rattle.st_contexts.specs.Stack.{Standing}
+use Rattle.st_loops.specs.States.{state_of}
 use Rattle.st_rules.specs.Events.{Event}
 use Rattle.st_rules.specs.Flat.{FlatBody, code_at}
 use Rattle.st_rules.specs.Turns.{Top, top_iter, instructions}
@@ -19,9 +21,11 @@ use Rattle.st_machine.specs.declared.work.Mode.TheVariants as mode
 use Rattle.st_machine.specs.declared.work.Work.{Work}
 use Rattle.st_machine.specs.declared.work.Work.TheVariants as work
 use Rattle.st_machine.specs.Seen.{Seen}
-use Rattle.st_machine.specs.Plans.{program_in}
+use Rattle.st_machine.specs.Plans.{program_in, room_in}
 use Rattle.st_machine.specs.Initializers.{seen_initializer}
-use Rattle.st_machine.specs.Steps.{advanced, advance_told}
+use Rattle.st_machine.specs.Sound.{IsSent, IsKept}
+use Rattle.st_machine.specs.Sending.{send_is_sound, send_of, super_send_is_sound, super_send_of, value_in}
+use Rattle.st_machine.specs.Steps.{advanced, advance_told, advance_written}
 use Rattle.st_machine.specs.Meaning.{events_of, flat_of, top_of}
 
 -- ---- links name activations further out
@@ -80,48 +84,59 @@ IsBody (a ∷ acts) = elim a.kept [ act.Body f ↦ Unit {0} | _ ↦ ⊥ ]
 
 abbrev pub WorkBelow : ℕ → Work → Type 0
 WorkBelow n (work.Apply receiver env) = env.0 < n
+WorkBelow n (work.SendValue receiver env) = env.0 < n
 WorkBelow n (work.Activate closure env) = env.0 < n
 WorkBelow n (work.Enter code receiver env) = env.0 < n
+WorkBelow n (work.SendTo selector receiver env) = env.0 < n
+WorkBelow n (work.SuperTo class selector receiver env) = env.0 < n
 WorkBelow n (work.Fail trouble env) = env.0 < n
 WorkBelow n (work.Raise exception env) = env.0 < n
 WorkBelow n (work.RaiseNew class env) = env.0 < n
 WorkBelow n (work.Search x rest) = SearchBelow n x × (rest.0 < n)
 WorkBelow n (work.TurnBy x entry outside) = (SearchBelow n x × EntryBelow n entry) × (outside.0 < n)
 WorkBelow n (work.Ask w k t env) = TurnBelow n t × (env.0 < n)
-WorkBelow n _ = Unit {0}
+WorkBelow n (work.Visit number l v env) = env.0 < n
+
+-- the loop that gets a value stands innermost
+abbrev pub AtLoop : Work → List Standing → Type 0
+AtLoop (work.Visit number l v env) [] = ⊥
+AtLoop (work.Visit number l v env) (a ∷ acts) = (a.number ≡ number) × (a.env ≡ env)
+AtLoop _ acts = Unit {0}
 
 abbrev pub CanGoOn : Mode → Seen → Type 0
 CanGoOn mode.Run s = IsBody s.stack.acts
-CanGoOn (mode.Begin w) s = WorkBelow s.stack.next w
+CanGoOn (mode.Begin w) s = WorkBelow s.stack.next w × AtLoop w s.stack.acts
 CanGoOn mode.Next s = s.stack.acts ≡ []
 CanGoOn _ s = Unit {0}
+
+-- what the next work asks of the store holds
+abbrev pub IsSound : Mode → Seen → Type 0
+IsSound (mode.Begin (work.SendValue receiver env)) s = IsSent (send_is_sound (value_in s) receiver s) (send_of (value_in s) receiver s) s
+IsSound (mode.Begin (work.SendTo selector receiver env)) s = IsSent (send_is_sound selector receiver s) (send_of selector receiver s) s
+IsSound (mode.Begin (work.SuperTo class selector receiver env)) s = IsSent (super_send_is_sound class selector receiver s) (super_send_of class selector receiver s) s
+IsSound (mode.Begin (work.Visit n l v env)) s = IsKept (state_of l) s
+IsSound _ s = Unit {0}
 
 pub record Ready (s : Seen) : Type 0 where
   pub compiled : s.plan.codes ≡ compile_of (program_in s.plan)
   pub initializers : map seen_initializer s.plan.initializers ≡ (program_in s.plan).initializers
   pub troubles : s.plan.troubles ≡ (program_in s.plan).trouble_place
   pub roomy : Roomy s.plan.codes s.stack.width
-  pub space : 0 < s.stack.width
-  pub passes : s.passed.room ≡ s.stack.width
+  pub space : 8 ≤ s.stack.width
+  pub passes : s.stack.width ≤ s.passed.room
+  pub arguments : s.passed.room ≡ room_in s.plan
   pub depth : s.stack.depth ≡ (program_in s.plan).depth_limit
   pub cells : s.memory.limit ≡ (program_in s.plan).cell_limit
   pub within : s.memory.used ≤ s.memory.limit
   pub numbers : s.stack.next < 2 ^ 64 - 1
   pub falling : Falling s.stack.next s.stack.acts
   pub next : CanGoOn s.mode s
+  pub sound : IsSound s.mode s
 
--- a step makes a small step at least, but for the opening of the next initializer, which belongs to the small step before it; works that need the program's messages wait
-abbrev pub WorkMoves : Work → ℕ → Type 0
-WorkMoves (work.SendValue receiver env) count = Unit {0}
-WorkMoves (work.SendTo selector receiver env) count = Unit {0}
-WorkMoves (work.SuperTo class selector receiver env) count = Unit {0}
-WorkMoves (work.Visit n l v env) count = Unit {0}
-WorkMoves _ count = 0 < count
-
+-- a step makes a small step at least, but for the opening of the next initializer, which belongs to the small step before it
 abbrev pub Moves : Mode → ℕ → Type 0
 Moves mode.Next count = Unit {0}
 Moves (mode.Ended e) count = Unit {0}
-Moves (mode.Begin w) count = WorkMoves w count
 Moves _ count = 0 < count
 
 -- how many instructions it runs
@@ -136,6 +151,6 @@ pub record Leads (s : Seen) (from to : Top FlatBody) : Type 0 where
   pub counted : instructions (flat_of s) (program_in s.plan) count from ≡ runs_in s.mode
   pub leads : top_iter (flat_of s) (program_in s.plan) count from ≡ to
 
--- a step of a machine that is ready is some small steps of the flat machine, and tells the events that these do
+-- a step of a machine that is ready is some small steps of the flat machine, writes what these write, and tells the events that they tell
 abbrev pub FollowsTheFlat : Type 0
-FollowsTheFlat = (s : Seen) (transcript : Text) (events : List Event) → Ready s → Leads s (top_of transcript events s) (top_of transcript (events ++ events_of (advance_told s)) (advanced s))
+FollowsTheFlat = (s : Seen) (transcript : Text) (events : List Event) → Ready s → Leads s (top_of transcript events s) (top_of (transcript ++ advance_written s) (events ++ events_of (advance_told s)) (advanced s))

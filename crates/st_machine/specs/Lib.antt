@@ -9,8 +9,13 @@ pub mod Settling
 pub mod Signals
 pub mod Searches
 pub mod Controls
+pub mod Passing
+pub mod Loops
+pub mod Performing
+pub mod Sending
 pub mod Works
 pub mod Steps
 pub mod Running
 pub mod Meaning
+pub mod Sound
 pub mod Followed

@@ -5,19 +5,16 @@ use Rattle.object_heap.specs.declared.value.Value.{Value}
 use Rattle.object_heap.specs.declared.value.Value.TheVariants.{Nil}
 use Rattle.st_code.specs.Texts.{Text}
 use Rattle.st_code.specs.Program.{Program, Initializer}
-use Rattle.st_code.specs.BuiltIns.{numbered_row}
-use Rattle.st_code.specs.Messages.{LoopMessage, WhileTrue, Row, Loops}
 use Rattle.st_collections.specs.Actions as actions
 use Rattle.st_collections.specs.Loops.{next_visit}
 use Rattle.st_contexts.specs.declared.activation.Activation.{Activation}
 use Rattle.st_contexts.specs.declared.activation.Activation.TheVariants as act
-use Rattle.st_contexts.specs.declared.activation.Arguments.{Arguments}
-use Rattle.st_contexts.specs.declared.activation.Arguments.TheVariants.{Zero, One, Two, Three}
 use Rattle.st_contexts.specs.declared.activation.Frame.{Frame}
 use Rattle.st_contexts.specs.declared.activation.Entry as standing
 use Rattle.st_contexts.specs.declared.activation.Env as link
 use Rattle.st_contexts.specs.declared.activation.Turn as linked
-use Rattle.st_contexts.specs.declared.activation.LoopState as kept
+use Rattle.st_loops.specs.declared.state.LoopState as kept
+use Rattle.st_loops.specs.States.{state_of as kept_state}
 use Rattle.st_contexts.specs.declared.activation.SearchState.{SearchState}
 use Rattle.st_contexts.specs.declared.activation.Purpose as searched
 use Rattle.st_contexts.specs.declared.activation.Purpose.TheVariants as purpose
@@ -133,18 +130,8 @@ wait_of wait.Outer = ToOuter
 
 -- ---- loops
 
-abbrev pub arguments_of : Arguments → List Value
-arguments_of Zero = []
-arguments_of (One a) = a ∷ []
-arguments_of (Two a b) = a ∷ b ∷ []
-arguments_of (Three a b c) = a ∷ b ∷ c ∷ []
-
-abbrev loop_message : Row → LoopMessage
-loop_message (Loops m) = m
-loop_message _ = WhileTrue
-
 unfoldable pub loop_of : kept.LoopState → actions.LoopState
-loop_of l = record { message = loop_message (numbered_row l.message); receiver = l.receiver; arguments = arguments_of l.arguments; index = l.index; made = l.made; visited = l.visited; aside = l.aside }
+loop_of l = kept_state l
 
 -- ---- what stands
 

@@ -1,6 +1,7 @@
 // What a handler tells its exception to do (ANSI NCITS 319, 5.5).
 ghost use Rattle.std.specs.Prelude.{◌≡◌, true};
 ghost use Rattle.signal_env.specs.Turns.{live_in};
+ghost use Rattle.st_messages.specs.Replies.{control_row};
 ghost use Rattle.st_machine.specs.Opening.{settling, beginning};
 ghost use Rattle.st_machine.specs.Settling.{search_of, searching};
 ghost use Rattle.st_machine.specs.Controls.{resignaled, resignaled_as, controlled_by, control_told_by, controlled_without, controlled_in, control_told_in, controlled, control_told};
@@ -11,19 +12,7 @@ use crate::work::{Mode, Told, Work};
 use object_heap::{Heap, Trouble, Value};
 use signal_env::{innermost_turn, is_live};
 use st_contexts::{Env, Event, Outcome, Purpose, Target, Turn, Wait};
-
-/// What a handler tells its exception to do.
-#[derive(Clone, Copy, Debug, PartialEq, Eq)]
-pub enum Control {
-    Return,
-    Retry,
-    RetryUsing,
-    Resume,
-    Pass,
-    Outer,
-    ResignalAs,
-    IsNested,
-}
+use st_messages::Control;
 
 impl<H: Heap> Machine<H> {
     fn fail_next(&mut self, trouble: Trouble, env: Env) -> Told
@@ -34,7 +23,7 @@ impl<H: Heap> Machine<H> {
         Told::Nothing
     }
 
-    fn unwind_next(&mut self, target: Target, value: Value) -> Told
+    pub(crate) fn unwind_next(&mut self, target: Target, value: Value) -> Told
         ensures gone { self.new ≡ settling (Outcome.Go target value) self.old }
         ensures told { result ≡ Told.Nothing }
     {
@@ -109,8 +98,8 @@ impl<H: Heap> Machine<H> {
         entry: u64,
         env: Env,
     ) -> Told
-        ensures controlled { self.new ≡ controlled_by control value number turn entry env self.old }
-        ensures told { result ≡ control_told_by control number }
+        ensures controlled { self.new ≡ controlled_by (control_row control) value number turn entry env self.old }
+        ensures told { result ≡ control_told_by (control_row control) number }
     {
         match control {
             Control::Return => self.unwind_next(Target::Protected(entry), value),
@@ -133,7 +122,7 @@ impl<H: Heap> Machine<H> {
         turn: Turn,
         env: Env,
     ) -> Told
-        ensures controlled { self.new ≡ controlled_without control value number turn env self.old }
+        ensures controlled { self.new ≡ controlled_without (control_row control) value number turn env self.old }
         ensures told { result ≡ Told.Nothing }
     {
         match control {
@@ -150,8 +139,8 @@ impl<H: Heap> Machine<H> {
         turn: Turn,
         env: Env,
     ) -> Told
-        ensures controlled { self.new ≡ controlled_in turn.entry control value number turn env self.old }
-        ensures told { result ≡ control_told_in turn.entry control number }
+        ensures controlled { self.new ≡ controlled_in turn.entry (control_row control) value number turn env self.old }
+        ensures told { result ≡ control_told_in turn.entry (control_row control) number }
     {
         match turn.entry {
             Some(entry) => self.control_by(control, value, number, turn, entry, env),
@@ -167,8 +156,8 @@ impl<H: Heap> Machine<H> {
         value: Value,
         env: Env,
     ) -> Told
-        ensures controlled { self.new ≡ controlled control exception value env self.old }
-        ensures told { result ≡ control_told control exception self.old }
+        ensures controlled { self.new ≡ controlled (control_row control) exception value env self.old }
+        ensures told { result ≡ control_told (control_row control) exception self.old }
     {
         match innermost_turn(&self.contexts, exception) {
             Some(found) => self.control_in(control, value, found.number, found.turn, env),

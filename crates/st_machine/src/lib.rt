@@ -4,25 +4,29 @@
 mod controls;
 mod initializers;
 mod instructions;
+mod facts;
 pub mod law;
 mod loaded;
 mod lookups;
+mod looping;
 mod machine;
 mod opening;
 mod operands;
+mod performing;
+mod room;
 mod running;
 mod scopes;
 mod searches;
+mod sending;
 mod settling;
 mod signals;
 mod work;
 mod works;
 
-pub use controls::Control;
 pub use loaded::{Initializer, Limits, Loaded};
 pub use machine::Machine;
 pub use running::{Progress, Stats};
-pub use work::{Ending, Mode, Told, Work};
+pub use work::{Ending, Mode, Telling, Told, Work};
 
 #[cfg(test)]
 mod tests;

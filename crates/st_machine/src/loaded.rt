@@ -89,6 +89,13 @@ impl Loaded {
         &self.image
     }
 
+    /// The code of its bodies.
+    pub(crate) fn codes(&self) -> &[Code]
+        ensures { map seen_code result.now ≡ self.now.codes }
+    {
+        &self.codes
+    }
+
     /// The text of a trouble.
     pub fn trouble_text(&self, trouble: Trouble) -> Value
         ensures { result ≡ text_in self.now trouble }

@@ -1,12 +1,15 @@
 // The machine: its parts, and how it stands, stops and is asked.
 ghost use Rattle.std.specs.Prelude.{◌≡◌, IfOk, IsTrue};
+ghost use Rattle.st_messages.specs.Replies.{written_text};
+ghost use Rattle.st_machine.specs.Plans.{program_in};
 ghost use Rattle.st_machine.specs.Seen.{Seen};
-ghost use Rattle.st_machine.specs.Steps.{first_seen, advanced, advance_told};
+ghost use Rattle.st_machine.specs.Steps.{first_seen, advanced, advance_told, advance_written};
 ghost use Rattle.st_machine.specs.Opening.{stood, stood_number, stepped, has_step, settling, left_with};
 
 use crate::loaded::Loaded;
 use crate::operands::Passed;
-use crate::work::{Mode, Told};
+use crate::room::room_of;
+use crate::work::{Mode, Telling, Told, telling};
 use object_heap::{Heap, Value};
 use st_base::OutOfMemory;
 use st_contexts::{Activation, Contexts, Env, Outcome};
@@ -55,7 +58,7 @@ impl<H: Heap> Machine<H> {
         let width = loaded.width();
         let contexts = Contexts::new(alloc, loaded.depth_limit(), width)?;
         let variables = vec![in alloc; Value::Nil; loaded.variables()]?;
-        let passed = Passed::new(alloc, width)?;
+        let passed = Passed::new(alloc, room_of(&loaded))?;
         Ok(Machine {
             loaded,
             contexts,
@@ -77,23 +80,24 @@ impl<H: Heap> Machine<H> {
         self.mode
     }
 
-    /// One small step, and the events that it tells. Sends and loops are left as they are.
-    pub fn advance(&mut self) -> Told
+    /// One small step, and what it tells.
+    pub fn advance(&mut self) -> Telling
         ensures stepped { self.new ≡ advanced self.old }
-        ensures told { result ≡ advance_told self.old }
+        ensures told { result.events ≡ advance_told self.old }
+        ensures written { written_text (program_in self.new.plan) self.new.memory.store result.written ≡ advance_written self.old }
     {
         match self.mode {
             Mode::Run => {
                 self.instruct();
-                Told::Nothing
+                telling(Told::Nothing)
             }
-            Mode::Settle(outcome) => self.settle(outcome),
+            Mode::Settle(outcome) => telling(self.settle(outcome)),
             Mode::Begin(work) => self.begin(work),
             Mode::Next => {
                 self.open_next();
-                Told::Nothing
+                telling(Told::Nothing)
             }
-            Mode::Ended(_) => Told::Nothing,
+            Mode::Ended(_) => telling(Told::Nothing),
         }
     }
 

@@ -1,12 +1,17 @@
 // The operands of the innermost activation, and the values that a work passes on.
-ghost use Rattle.std.specs.Prelude.{◌≡◌, ◌+◌, ◌≤◌, ◌<◌, ◌^◌, [], ◌∷◌, length, reverse, min, get_or, IfOk, vec_capacity};
+ghost use Rattle.std.specs.Prelude.{◌≡◌, ◌+◌, ◌≤◌, ◌<◌, ◌^◌, [], ◌∷◌, ◌++◌, length, reverse, min, get_or, IfOk, vec_capacity};
+ghost use Rattle.object_heap.specs.Store.{object_at};
+ghost use Rattle.st_collections.specs.Kinds.{slots_of};
+ghost use Rattle.st_messages.specs.Replies.{behind, passed_on};
 ghost use Rattle.st_machine.specs.Operands.{moved_on, delivered, taken, own_pushed};
+ghost use Rattle.st_machine.specs.Passing.{fits_in, put_on};
 ghost use Rattle.st_machine.specs.Seen.{passing};
 ghost use Rattle.st_machine.specs.Searches.{one_passed};
 
-use object_heap::Value;
+use object_heap::{Heap, Value};
 use st_base::OutOfMemory;
 use st_contexts::{Contexts, Frame};
+use st_messages::Passed as Named;
 use std::alloc::Global;
 use std::marker::Model;
 
@@ -66,6 +71,34 @@ pub fn argument(arguments: &[Value], index: usize) -> Value
     Value::Nil
 }
 
+// Pushes values into room that is there.
+fn push_all(values: &mut Vec<Value>, more: &[Value])
+    requires { length values.old.items + length more.now ≤ vec_capacity values.old }
+    ensures items { values.new.items ≡ values.old.items ++ more.now }
+    ensures capacity { vec_capacity values.old ≤ vec_capacity values.new }
+{
+    for value in more {
+        match values.push(*value) {
+            Ok(()) => (),
+            Err(_) => unreachable!(),
+        }
+    }
+}
+
+// Pushes the slots of an object into room that is there.
+fn push_slots<H: Heap>(values: &mut Vec<Value>, heap: &H, object: u32)
+    requires { length values.old.items + length (object_at object (H.meaning heap.now).store).slots ≤ vec_capacity values.old }
+    ensures items { values.new.items ≡ values.old.items ++ (object_at object (H.meaning heap.now).store).slots }
+    ensures capacity { vec_capacity values.old ≤ vec_capacity values.new }
+{
+    for slot in 0..heap.length(object) {
+        match values.push(heap.get(object, slot)) {
+            Ok(()) => (),
+            Err(_) => unreachable!(),
+        }
+    }
+}
+
 fn least(a: u32, b: u32) -> u32
     ensures { result ≡ min a b }
 {
@@ -80,14 +113,14 @@ pub struct Passed {
 }
 
 impl Model for Passed {
-    ghost use Rattle.std.specs.Prelude.{vec_capacity, ◌≤◌};
+    ghost use Rattle.std.specs.Prelude.{vec_capacity, length, ◌≤◌};
     ghost use Rattle.st_machine.specs.Seen as seen;
 
     ghost Value = { seen.Passed };
 
     ghost view = { λ p. record { values = p.values.items; room = p.room } };
 
-    ghost invariant = { λ p. p.room ≤ vec_capacity p.values };
+    ghost invariant = { λ p. (p.room ≤ vec_capacity p.values) × (length p.values.items ≤ p.room) };
 }
 
 impl Passed {
@@ -134,5 +167,70 @@ impl Passed {
         self.values.clear();
         pop_into(contexts, &mut self.values, least(count, self.room));
         self.values.reverse();
+    }
+
+    /// How many there are.
+    pub fn count(&self) -> u32
+        ensures { result ≡ length self.now.values }
+    {
+        self.values.len() as u32
+    }
+
+    /// Passes on these values, where there is room. Answers whether there is.
+    pub fn set(&mut self, values: &[Value]) -> bool
+        ensures put { self.new ≡ put_on values.now self.old }
+        ensures fits { result ≡ fits_in values.now self.old }
+    {
+        if values.len() > self.room as usize {
+            return false;
+        }
+        self.values.clear();
+        push_all(&mut self.values, values);
+        true
+    }
+
+    // Passes on all values but the first.
+    fn drop_first(&mut self)
+        ensures { self.new ≡ passing (behind self.old.values) self.old }
+    {
+        if !self.values.is_empty() {
+            self.values.remove(0);
+        }
+    }
+
+    // Passes on the slots of an object, where there is room.
+    fn set_slots<H: Heap>(&mut self, heap: &H, value: Value) -> bool
+        ensures put { self.new ≡ put_on (slots_of (H.meaning heap.now).store value) self.old }
+        ensures fits { result ≡ fits_in (slots_of (H.meaning heap.now).store value) self.old }
+    {
+        match value {
+            Value::Object(object) => {
+                if heap.length(object) > self.room {
+                    return false;
+                }
+                self.values.clear();
+                push_slots(&mut self.values, heap, object);
+                true
+            }
+            _ => self.set(&[]),
+        }
+    }
+
+    /// Passes on what a reply names, where there is room. Answers whether there is.
+    pub fn pass_on<H: Heap>(&mut self, heap: &H, named: Named) -> bool
+        ensures put { self.new ≡ put_on (passed_on (H.meaning heap.now).store self.old.values named) self.old }
+        ensures fits { result ≡ fits_in (passed_on (H.meaning heap.now).store self.old.values named) self.old }
+    {
+        match named {
+            Named::None => self.set(&[]),
+            Named::All => true,
+            Named::Behind => {
+                self.drop_first();
+                true
+            }
+            Named::SlotsOf(value) => self.set_slots(heap, value),
+            Named::One(value) => self.set(&[value]),
+            Named::Three(one, two, three) => self.set(&[one, two, three]),
+        }
     }
 }

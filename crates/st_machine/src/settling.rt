@@ -12,9 +12,10 @@ use crate::operands::deliver;
 use crate::work::{Ending, Mode, Told, Work};
 use object_heap::{Heap, Trouble, Value};
 use st_contexts::{
-    Activation, Contexts, Env, Event, Frame, Limit, LoopState, Numbered, Outcome, Purpose,
-    SearchState, Target, Turn, Wait,
+    Activation, Contexts, Env, Event, Frame, Limit, Numbered, Outcome, Purpose, SearchState, Target,
+    Turn, Wait,
 };
+use st_loops::LoopState;
 
 // What a body of this number makes of an unwinding.
 fn at_home(number: u64, target: Target, value: Value) -> Outcome

@@ -35,7 +35,12 @@ fn put_slots<H: Heap>(heap: &mut H, object: u32, count: u32, values: &[Value])
 
 // A new exception, with these values in its first slots, or None where its cells would pass the
 // limit.
-fn make_exception<H: Heap>(heap: &mut H, class: u32, count: u32, values: &[Value]) -> Option<u32>
+pub(crate) fn make_exception<H: Heap>(
+    heap: &mut H,
+    class: u32,
+    count: u32,
+    values: &[Value],
+) -> Option<u32>
     requires { IsTrue H.reserved }
     ensures made { H.meaning heap.new ≡ exception_made class count values.now (H.meaning heap.old) }
     ensures number { result ≡ if_object count (H.meaning heap.old) }

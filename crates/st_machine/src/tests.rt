@@ -2,23 +2,29 @@
 ghost use Rattle.std.specs.Prelude.{◌<◌, ◌^◌, length, IfOk};
 ghost use Rattle.st_machine.specs.Plans.{AreShort};
 
-use super::{Ending, Initializer, Limits, Loaded, Machine, Mode, Progress, Told, Work};
-use crate::operands::argument;
+use super::{Ending, Initializer, Limits, Loaded, Machine, Mode, Progress, Told};
 use crate::scopes::shared;
 use cell_heap::CellHeap;
 use object_heap::{Heap, Value};
-use program_image::build;
+use program_image::{Image, build};
 use sqlite_items::Items;
-use st_base::{OutOfMemory, Text};
+use st_base::{Failed, MemorySink, OutOfMemory, Text};
 use st_code::{Code, CodeKind, Constant, Instruction, Variable};
-use st_contexts::{Activation, Env};
+use st_transcript::put_written;
 use st_tree::units::{Definition, Unit, UnitKind, UnitList};
 use std::alloc::Global;
 use std::test::Fail;
 
-const VALUE: u32 = 1;
+// Selectors by their numbers in the codes below.
+static SELECTORS: [&[u8]; 4] = [b"value", b"ensure:", b"cr", b"timesRepeat:"];
 
-const ENSURE: u32 = 2;
+const VALUE: u32 = 0;
+
+const ENSURE: u32 = 1;
+
+const CR: u32 = 2;
+
+const TIMES_REPEAT: u32 = 3;
 
 // An initializer with one variable and a block inside it, and what they come to.
 struct Row {
@@ -29,9 +35,10 @@ struct Row {
     events: u32,
     cells: u32,
     depth: u32,
+    written: &'static [u8],
 }
 
-static ROWS: [Row; 5] = [
+static ROWS: [Row; 6] = [
     Row {
         method: &[
             Instruction::PushConstant(Constant::Integer(4)),
@@ -46,6 +53,7 @@ static ROWS: [Row; 5] = [
         events: 0,
         cells: 0,
         depth: 1,
+        written: b"",
     },
     Row {
         method: &[
@@ -65,6 +73,7 @@ static ROWS: [Row; 5] = [
         events: 0,
         cells: 2,
         depth: 2,
+        written: b"",
     },
     Row {
         method: &[
@@ -88,6 +97,7 @@ static ROWS: [Row; 5] = [
         events: 0,
         cells: 4,
         depth: 2,
+        written: b"",
     },
     Row {
         method: &[
@@ -105,9 +115,10 @@ static ROWS: [Row; 5] = [
         ],
         captured: false,
         value: 8,
-        events: 2,
+        events: 3,
         cells: 2,
         depth: 3,
+        written: b"",
     },
     Row {
         method: &[
@@ -126,23 +137,66 @@ static ROWS: [Row; 5] = [
         ],
         captured: false,
         value: 5,
-        events: 2,
+        events: 3,
         cells: 2,
         depth: 3,
+        written: b"",
+    },
+    Row {
+        method: &[
+            Instruction::PushConstant(Constant::Integer(3)),
+            Instruction::MakeBlock(1),
+            Instruction::Send {
+                selector: TIMES_REPEAT,
+                count: 1,
+            },
+            Instruction::MethodReturn,
+        ],
+        block: &[
+            Instruction::PushConstant(Constant::Transcript),
+            Instruction::Send {
+                selector: CR,
+                count: 0,
+            },
+            Instruction::BlockEnd,
+        ],
+        captured: false,
+        value: 3,
+        events: 0,
+        cells: 2,
+        depth: 3,
+        written: b"\n\n\n",
     },
 ];
+
+// An instruction with the number that its selector has in an image.
+fn named(image: &Image, instruction: Instruction) -> Instruction {
+    match instruction {
+        Instruction::Send { selector, count } => {
+            let text: &[u8] = if (selector as usize) < SELECTORS.len() { SELECTORS[selector as usize] } else { b"" };
+            match image.names().find(text) {
+                Some(selector) => Instruction::Send { selector, count },
+                None => Instruction::Send { selector: image.names().len(), count },
+            }
+        }
+        _ => instruction,
+    }
+}
 
 fn code(
     alloc: Global,
     kind: CodeKind,
     captured: Vec<bool>,
     instructions: &[Instruction],
+    image: &Image,
 ) -> Result<Code, OutOfMemory>
     requires { length captured.items < 2 ^ 32 }
     ensures { IfOk result (λ c. length c.captured.items < 2 ^ 32) }
 {
     let mut all = Vec::new(alloc);
-    all.extend_from_slice(instructions)?;
+    for instruction in instructions {
+        all.push(named(image, *instruction))?;
+    }
     Ok(Code {
         kind,
         class: Value::Nil,
@@ -153,12 +207,12 @@ fn code(
     })
 }
 
-fn codes(alloc: Global, row: &Row) -> Result<Vec<Code>, OutOfMemory>
+fn codes(alloc: Global, row: &Row, image: &Image) -> Result<Vec<Code>, OutOfMemory>
     ensures { IfOk result (λ codes. AreShort codes.items) }
 {
     let captured = vec![in alloc; row.captured; 1]?;
-    let method = code(alloc, CodeKind::Method, captured, row.method)?;
-    let block = code(alloc, CodeKind::Block, Vec::new(alloc), row.block)?;
+    let method = code(alloc, CodeKind::Method, captured, row.method, image)?;
+    let block = code(alloc, CodeKind::Block, Vec::new(alloc), row.block, image)?;
     let mut codes = Vec::new(alloc);
     if let Err(_) = codes.push(method) {
         return Err(OutOfMemory);
@@ -183,53 +237,37 @@ fn loaded(alloc: Global, row: &Row, count: usize, limits: Limits) -> Result<Load
     };
     let initializers = vec![in alloc; initializer; count]?;
     let image = build(alloc, Definition { units })?;
-    Ok(Loaded::new(image, codes(alloc, row)?, initializers, 0, limits))
+    let codes = codes(alloc, row, &image)?;
+    Ok(Loaded::new(image, codes, initializers, 0, limits))
 }
 
-// What a send of `value` or `ensure:` begins.
-fn perform(machine: &mut Machine<CellHeap>, selector: u32, receiver: Value, env: Env) {
-    if selector == ENSURE {
-        let block = argument(machine.passed.values(), 0);
-        machine.passed.clear();
-        let _ = machine.stand(Activation::EnsureOn { block }, env);
-    }
-    machine.begin(Work::Apply { receiver, env });
-}
-
-// So many steps, and how many of them told something.
-fn drive(machine: &mut Machine<CellHeap>) -> u32 {
+// So many steps, and how many of them told an event.
+fn drive(machine: &mut Machine<CellHeap>, out: &mut MemorySink) -> Result<u32, Failed> {
     let mut events: u32 = 0;
-    for _ in 0..40 {
-        match machine.mode() {
-            Mode::Begin(
-                Work::SendTo {
-                    selector,
-                    receiver,
-                    env,
-                },
-            ) => perform(machine, selector, receiver, env),
-            _ => {
-                if machine.advance() != Told::Nothing {
-                    events = events.saturating_add(1);
-                }
-            }
+    for _ in 0..200 {
+        let telling = machine.advance();
+        put_written(&machine.heap, &machine.loaded, telling.written, out)?;
+        if telling.events != Told::Nothing {
+            events = events.saturating_add(1);
         }
     }
-    events
+    Ok(events)
 }
 
 #[test]
 fn small_codes_run(rt: HostRuntime) -> Result<(), Fail> {
     let limits = Limits {
-        steps: 10,
-        depth: 3,
-        cells: 9,
+        steps: 20,
+        depth: 6,
+        cells: 30,
     };
     for row in &ROWS {
         let loaded = loaded(rt.alloc(), row, 1, limits)?;
         let heap = CellHeap::new(rt.alloc(), limits.cells, 0)?;
         let mut machine = Machine::open(rt.alloc(), loaded, heap)?;
-        assert_eq!(rt; drive(&mut machine), row.events);
+        let mut out = MemorySink::new(rt.alloc(), 9, Vec::new(rt.alloc()))?;
+        assert_eq!(rt; drive(&mut machine, &mut out), Ok(row.events));
+        assert_eq!(rt; out.written(), row.written);
         assert_eq!(rt; machine.mode(), Mode::Ended(Ending::Done));
         assert_eq!(rt; shared(&machine.variables, 0, 0), Value::Integer(row.value));
         assert_eq!(rt; machine.heap.used(), row.cells);
@@ -278,8 +316,9 @@ fn initializers_run_one_behind_the_other(rt: HostRuntime) -> Result<(), Fail> {
     let loaded = loaded(rt.alloc(), &ROWS[0], 2, limits)?;
     let heap = CellHeap::new(rt.alloc(), limits.cells, 0)?;
     let mut machine = Machine::open(rt.alloc(), loaded, heap)?;
+    let mut out = MemorySink::new(rt.alloc(), 9, Vec::new(rt.alloc()))?;
     for row in &TURNS {
-        assert_eq!(rt; machine.go(row.turns), row.progress);
+        assert_eq!(rt; machine.go(row.turns, &mut out), row.progress);
         assert_eq!(rt; machine.stats().instructions, row.instructions);
     }
     Ok(())

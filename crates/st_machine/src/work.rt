@@ -1,6 +1,11 @@
 // What the machine does next, and what a step tells.
+ghost use Rattle.std.specs.Prelude.{◌≡◌};
+ghost use Rattle.st_messages.specs.declared.reply.Written.{Written};
+
 use object_heap::{Closure, Trouble, Value};
-use st_contexts::{Env, Event, LoopState, Outcome, SearchState, Turn, Wait};
+use st_contexts::{Env, Event, Outcome, SearchState, Turn, Wait};
+use st_loops::LoopState;
+use st_messages::Written;
 
 /// How a run ended.
 #[derive(Clone, Copy, Debug, PartialEq, Eq)]
@@ -113,4 +118,21 @@ pub enum Told {
     Nothing,
     One(Event),
     Two(Event, Event),
+}
+
+/// What a step tells: events, and what goes to the Transcript. No step tells both.
+#[derive(Clone, Copy, Debug, PartialEq, Eq)]
+pub struct Telling {
+    pub events: Told,
+    pub written: Written,
+}
+
+/// Nothing goes to the Transcript.
+pub(crate) fn telling(events: Told) -> Telling
+    ensures { result ≡ record { events = events; written = Written.Nothing } }
+{
+    Telling {
+        events,
+        written: Written::Nothing,
+    }
 }

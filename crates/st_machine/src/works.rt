@@ -1,9 +1,11 @@
 // What is begun.
 ghost use Rattle.std.specs.Prelude.{◌≡◌};
-ghost use Rattle.st_machine.specs.Works.{begun, begun_told};
+ghost use Rattle.st_messages.specs.Replies.{written_text};
+ghost use Rattle.st_machine.specs.Plans.{program_in};
+ghost use Rattle.st_machine.specs.Works.{begun, begun_told, begun_written};
 
 use crate::machine::Machine;
-use crate::work::{Told, Work};
+use crate::work::{Telling, Told, Work, telling};
 use object_heap::{Closure, Heap, Value};
 use st_contexts::{Env, Turn, Wait};
 
@@ -40,35 +42,53 @@ impl<H: Heap> Machine<H> {
         Told::Nothing
     }
 
-    /// Begins a work, and answers what that tells. Sends and loops are left as they are.
-    pub(crate) fn begin(&mut self, work: Work) -> Told
+    /// Begins a work, and answers what that tells.
+    pub(crate) fn begin(&mut self, work: Work) -> Telling
         ensures begun { self.new ≡ begun work self.old }
-        ensures told { result ≡ begun_told work self.old }
+        ensures told { result.events ≡ begun_told work self.old }
+        ensures written { written_text (program_in self.new.plan) self.new.memory.store result.written ≡ begun_written work self.old }
     {
         match work {
-            Work::Apply { receiver, env } => self.begin_apply(receiver, env),
-            Work::Activate { closure, env } => self.begin_activate(closure, env),
+            Work::Apply { receiver, env } => telling(self.begin_apply(receiver, env)),
+            Work::SendValue { receiver, env } => self.send_value(receiver, env),
+            Work::Activate { closure, env } => telling(self.begin_activate(closure, env)),
             Work::Enter {
                 code,
                 receiver,
                 env,
-            } => self.begin_enter(code, receiver, env),
-            Work::Fail { trouble, env } => self.fail(trouble, env),
-            Work::Raise { exception, env } => self.raise(exception, env),
-            Work::RaiseNew { class, env } => self.raise_new(class, env),
-            Work::Search { search, rest } => self.search_in(search, rest),
+            } => telling(self.begin_enter(code, receiver, env)),
+            Work::SendTo {
+                selector,
+                receiver,
+                env,
+            } => self.send_to(selector, receiver, env),
+            Work::SuperTo {
+                class,
+                selector,
+                receiver,
+                env,
+            } => self.send_super_to(class, selector, receiver, env),
+            Work::Fail { trouble, env } => telling(self.fail(trouble, env)),
+            Work::Raise { exception, env } => telling(self.raise(exception, env)),
+            Work::RaiseNew { class, env } => telling(self.raise_new(class, env)),
+            Work::Search { search, rest } => telling(self.search_in(search, rest)),
             Work::TurnBy {
                 search,
                 entry,
                 outside,
-            } => self.turn_by(search, entry, outside),
+            } => telling(self.turn_by(search, entry, outside)),
             Work::Ask {
                 wait,
                 number,
                 turn,
                 env,
-            } => self.begin_ask(wait, number, turn, env),
-            _ => Told::Nothing,
+            } => telling(self.begin_ask(wait, number, turn, env)),
+            Work::Visit {
+                number: _,
+                state,
+                value,
+                env,
+            } => telling(self.visit(state, value, env)),
         }
     }
 }

@@ -13,12 +13,16 @@ use Rattle.st_contexts.specs.declared.outcome.Limit.{Limit}
 use Rattle.st_contexts.specs.declared.outcome.Limit.TheVariants as limit
 use Rattle.st_contexts.specs.Stack.{Stack, Standing, popped, outer_acts, with_acts, new_standing}
 use Rattle.st_machine.specs.declared.work.Work.{Work}
-use Rattle.st_machine.specs.Seen.{Plan, Seen, with_stack}
+use Rattle.st_machine.specs.declared.work.Ending.{Ending}
+use Rattle.st_machine.specs.declared.work.Ending.TheVariants as ending
+use Rattle.st_machine.specs.Seen.{Plan, Seen, with_stack, with_passed, passing}
 use Rattle.st_machine.specs.Plans.{program_in}
 use Rattle.st_machine.specs.Opening.{has_place, stood, stopped, settling, left_with, beginning}
-use Rattle.st_machine.specs.Followed.{Below, Falling, KeptBelow}
+use Rattle.st_machine.specs.Settling.{ended}
+use Rattle.st_machine.specs.Passing.{passing_on}
+use Rattle.st_machine.specs.Followed.{Below, Falling, KeptBelow, WorkBelow, AtLoop}
 use Rattle.st_machine.proofs.Links.{other_number}
-use Rattle.st_machine_laws.specs.Holding.{Course, Firm, Waits, AllWait, Fits, outcome_allowance, work_allowance, WorkNames, Holds}
+use Rattle.st_machine_laws.specs.Holding.{Course, Firm, Waits, AllWait, Fits, outcome_allowance, work_allowance, Holds}
 
 abbrev pub F : Course → Seen → Type 0
 F course s = Firm course s.plan s.stack s.memory s.passed.room s.steps s.initializers s.instructions
@@ -72,6 +76,7 @@ module _ (plan : Plan) (memory : Memory) (room steps begun run : ℕ) where
         roomy = f.roomy;
         space = f.space;
         passes = f.passes;
+        arguments = f.arguments;
         depth = f.depth;
         cells = f.cells;
         within = f.within;
@@ -96,6 +101,7 @@ module _ (plan : Plan) (memory : Memory) (room steps begun run : ℕ) where
         roomy = f.roomy;
         space = f.space;
         passes = f.passes;
+        arguments = f.arguments;
         depth = f.depth;
         cells = f.cells;
         within = l;
@@ -120,6 +126,7 @@ module _ (plan : Plan) (memory : Memory) (room steps begun run : ℕ) where
         roomy = f.roomy;
         space = f.space;
         passes = f.passes;
+        arguments = f.arguments;
         depth = f.depth;
         cells = f.cells;
         within = f.within;
@@ -142,8 +149,21 @@ settles o s f w h = record { firm = f; placed = w; numbers = fewer 2 (outcome_al
 pub stops : {course : Course} → (l : Limit) (s : Seen) → F course s → W s → Fits 0 s → Holds course (stopped l s)
 stops l s f w h = record { firm = f; placed = w; numbers = h; next = tt }
 
-pub begins : {course : Course} → (work : Work) (s : Seen) → F course s → W s → Fits (work_allowance work) s → WorkNames s.stack.next work → Holds course (beginning work s)
-begins work s f w h names = record { firm = f; placed = w; numbers = h; next = names }
+pub begins : {course : Course} → (work : Work) (s : Seen) → F course s → W s → Fits (work_allowance work) s → WorkBelow s.stack.next work → AtLoop work s.stack.acts → Holds course (beginning work s)
+begins work s f w h names at = record { firm = f; placed = w; numbers = h; next = (names, at) }
+
+pub ends : {course : Course} → (e : Ending) (s : Seen) → F course s → W s → Fits 0 s → Holds course (ended e s)
+ends e s f w h = record { firm = f; placed = w; numbers = h; next = tt }
+
+-- values are passed on, where there is room for them
+passes_by : {course : Course} → (b : Bool) (values : List Value) (work : Work) (s : Seen) → nat_le (length values) s.passed.room ≡ b → F course s → W s → Fits (work_allowance work) s → WorkBelow s.stack.next work → AtLoop work s.stack.acts
+    → Holds course (passing_on values (beginning work) s)
+passes_by true values work s is f w h names at = rw is (begins work (with_passed s (passing values s.passed)) f w h names at)
+passes_by false values work s is f w h names at = rw is (ends ending.Stranded s f w (fewer (work_allowance work) 0 s (omega arith) h))
+
+pub passes : {course : Course} → (values : List Value) (work : Work) (s : Seen) → F course s → W s → Fits (work_allowance work) s → WorkBelow s.stack.next work → AtLoop work s.stack.acts
+    → Holds course (passing_on values (beginning work) s)
+passes values work s f w h names at = passes_by (nat_le (length values) s.passed.room) values work s refl f w h names at
 
 -- the innermost activation is dropped
 pub firm_popped : {course : Course} → (s : Seen) → F course s → F course (with_stack s (popped s.stack))

@@ -30,11 +30,19 @@ use Rattle.st_machine.specs.declared.work.Work.TheVariants as work
 use Rattle.st_machine.specs.Seen.{Plan, Seen, with_memory, with_variables, with_passed, passing}
 use Rattle.st_machine.specs.Operands.{moved, taken}
 use Rattle.st_machine.specs.Instructions.{class_slot_of, variable_read, closure_of, block_made, arguments_taken, sending, leaves_home, performed, next_performed, instructed}
-use Rattle.st_machine.specs.Followed.{IsBody}
-use Rattle.st_machine.proofs.FollowsInstructions.{taken_top}
-use Rattle.st_machine_laws.specs.Holding.{Course, AllWait, RunsAtTop, work_allowance, WorkNames, Fits, Holds, further}
+use Rattle.st_machine.specs.Followed.{IsBody, WorkBelow, AtLoop}
+use Rattle.st_machine_laws.specs.Holding.{Course, AllWait, RunsAtTop, work_allowance, Fits, Holds, further}
 use Rattle.st_machine_laws.proofs.Blocks.{F, W, firm_stack, firm_memory, settles, stops, begins, leaves, fewer}
 use Rattle.st_machine_laws.proofs.Settling.{with, stand, moves, firm_kept}
+
+-- operands that are taken
+taken_top : (n : ℕ) (a : Standing) (acts : List Standing) (next depth width : ℕ) (ops vs : List Value)
+    → taken n (record { acts = record { number = a.number; kept = a.kept; env = a.env; operands = ops } ∷ acts; next = next; depth = depth; width = width }) vs
+    ≡ record { stack = record { acts = record { number = a.number; kept = a.kept; env = a.env; operands = (operands_taken n ops vs).below } ∷ acts; next = next; depth = depth; width = width }; values = (operands_taken n ops vs).args }
+unfolding taken
+taken_top zero a acts next depth width ops vs = refl
+taken_top (suc n) a acts next depth width [] vs = taken_top n a acts next depth width [] (Nil ∷ vs)
+taken_top (suc n) a acts next depth width (v ∷ ops) vs = taken_top n a acts next depth width ops (v ∷ vs)
 
 within_limit : (n m : ℕ) → nat_le n m ≡ true → n ≤ m
 within_limit n m e = grind (arith, nat_tests)
@@ -78,16 +86,16 @@ module _ (s : Seen) (f : Frame) (n : ℕ) (env : Env) (ops : List Value) (acts :
     firm_with ops' = firm_kept s mode.Run n env ops acts (act.Body f) (act.Body f) ops' firm firm.falling.0.kept
 
     -- the body waits for an answer
-    sends : (count : ℕ) (work : (receiver : Value) → Work) → ((receiver : Value) → WorkNames s.stack.next (work receiver)) → ((receiver : Value) → Fits (work_allowance (work receiver)) s) → Holds course (sending work (arguments_taken count here))
-    sends count work names fits =
+    sends : (count : ℕ) (work : (receiver : Value) → Work) → ((receiver : Value) → WorkBelow s.stack.next (work receiver)) → ((receiver : Value) (acts : List Standing) → AtLoop (work receiver) acts) → ((receiver : Value) → Fits (work_allowance (work receiver)) s) → Holds course (sending work (arguments_taken count here))
+    sends count work names at fits =
         let o : Operands = operands_taken (min count s.passed.room) ops [] in
         rw (taken_top (min count s.passed.room) (stand (act.Body f) n env ops) acts s.stack.next s.stack.depth s.stack.width ops [])
-        (begins (work (last_operand o.below)) (with_passed (with s (stand (act.Body f) n env (but_last o.below) ∷ acts) mode.Run) (passing o.args s.passed)) (firm_with (but_last o.below)) (l, w) (fits (last_operand o.below)) (names (last_operand o.below)))
+        (begins (work (last_operand o.below)) (with_passed (with s (stand (act.Body f) n env (but_last o.below) ∷ acts) mode.Run) (passing o.args s.passed)) (firm_with (but_last o.below)) (l, w) (fits (last_operand o.below)) (names (last_operand o.below)) (at (last_operand o.below) (stand (act.Body f) n env (but_last o.below) ∷ acts)))
 
     homes : (b : Bool) (v : Value) → Holds course (leaves_home b v f (with s (stand (act.Body f) n env (but_last ops) ∷ acts) mode.Run))
     homes true v = settles (outcome.Go (target.Home f.home) v) (with s (stand (act.Body f) n env (but_last ops) ∷ acts) mode.Run) (firm_with (but_last ops)) (l, w) h
     homes false v =
-        begins (work.Fail HomeHasReturned env) (with s (stand (act.Leaving f) n env (but_last ops) ∷ acts) mode.Run) (firm_kept s mode.Run n env ops acts (act.Body f) (act.Leaving f) (but_last ops) firm tt) (tt, w) h (below_next firm)
+        begins (work.Fail HomeHasReturned env) (with s (stand (act.Leaving f) n env (but_last ops) ∷ acts) mode.Run) (firm_kept s mode.Run n env ops acts (act.Body f) (act.Leaving f) (but_last ops) firm tt) (tt, w) h (below_next firm) tt
 
     performs : (i : Instruction) → Holds course (performed i f here)
     performs (instruction.PushConstant c) = goes (operand_pushed s.stack.width (constant_value c) ops)
@@ -96,8 +104,8 @@ module _ (s : Seen) (f : Frame) (n : ℕ) (env : Env) (ops : List Value) (acts :
     performs (instruction.Store v) = writes v
     performs instruction.Pop = goes (but_last ops)
     performs instruction.Dup = goes (operand_pushed s.stack.width (last_operand ops) ops)
-    performs (instruction.Send selector count) = sends count (λ receiver. work.SendTo selector receiver env) (λ receiver. below_next firm) (λ receiver. fewer 2 0 s (omega arith) h)
-    performs (instruction.SuperSend selector count) = sends count (λ receiver. work.SuperTo f.class selector receiver env) (λ receiver. below_next firm) (λ receiver. fewer 2 0 s (omega arith) h)
+    performs (instruction.Send selector count) = sends count (λ receiver. work.SendTo selector receiver env) (λ receiver. below_next firm) (λ receiver acts. tt) (λ receiver. fewer 2 0 s (omega arith) h)
+    performs (instruction.SuperSend selector count) = sends count (λ receiver. work.SuperTo f.class selector receiver env) (λ receiver. below_next firm) (λ receiver acts. tt) (λ receiver. fewer 2 0 s (omega arith) h)
     performs (instruction.MakeBlock code) = makes_by code (nat_le (s.memory.used + 2) s.memory.limit) refl
     performs instruction.MethodReturn = leaves (outcome.Answer (last_operand ops)) here firm w h
     performs instruction.HomeReturn = homes (stands_in f.home (value_popped here.stack).acts) (last_operand ops)
@@ -124,6 +132,7 @@ firm_further s f =
       roomy = f.roomy;
       space = f.space;
       passes = f.passes;
+      arguments = f.arguments;
       depth = f.depth;
       cells = f.cells;
       within = f.within;

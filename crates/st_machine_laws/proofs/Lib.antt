@@ -4,7 +4,13 @@ pub mod Searches
 pub mod Settling
 pub mod Opening
 pub mod Instructions
+pub mod Controls
+pub mod Loops
+pub mod Performing
 pub mod Steps
+pub mod Visits
 pub mod Idle
 pub mod Moments
 pub mod WholeRun
+pub mod Stopping
+pub mod StepLaw

@@ -1,5 +1,5 @@
 -- Each moment of a machine's run is one of the flat machine's.
-use Rattle.std.proofs.Common.{◌≡◌, ℕ, zero, suc, ◌+◌, ◌-◌, ◌*◌, ◌^◌, min, ◌<◌, ◌≤◌, List, [], ◌++◌, refl, ap, sym, ◌∙◌, arith}
+use Rattle.std.proofs.Common.{◌≡◌, ℕ, zero, suc, ◌+◌, ◌-◌, ◌*◌, ◌^◌, min, ◌<◌, ◌≤◌, ◌⊎◌, inl, inr, List, [], ◌++◌, refl, ap, sym, ◌∙◌, arith}
 use Rattle.std.proofs.lemmas.List.{append-nil, append_assoc}
 use Rattle.st_code.specs.Texts.{Text}
 use Rattle.st_code.specs.Program.{Program}
@@ -9,16 +9,17 @@ use Rattle.st_rules.specs.Runs as rules
 use Rattle.st_rules.specs.Machine.{Bodies}
 use Rattle.st_rules.specs.Flat.{FlatBody, flat, greatest_width}
 use Rattle.st_rules.specs.Turns.{Top, Ended, opened_run, runs_of, top_step, top_iter, instructions}
+use Rattle.st_machine.specs.declared.work.Ending.TheVariants as ending
 use Rattle.st_machine.specs.declared.work.Mode.{Mode}
 use Rattle.st_machine.specs.declared.work.Mode.TheVariants as mode
 use Rattle.st_machine.specs.Seen.{Plan, Seen}
 use Rattle.st_machine.specs.Plans.{program_in}
-use Rattle.st_machine.specs.Steps.{advanced_by, advanced, advance_told}
+use Rattle.st_machine.specs.Steps.{advanced_by, written_by as written_at, advanced, advance_told, advance_written}
 use Rattle.st_machine.specs.Initializers.{next_opened}
 use Rattle.st_machine.specs.Meaning.{events_of, top_of}
 use Rattle.st_machine.specs.Followed.{runs_in}
 use Rattle.st_machine_laws.specs.Holding.{Course, Holds, begun_by}
-use Rattle.st_machine_laws.specs.Moments.{after, told_by, step_written, written_by, runs_by}
+use Rattle.st_machine_laws.specs.Moments.{after, told_by, written_by, runs_by}
 use Rattle.st_machine_laws.proofs.Idle.{NotNext, next_goes_on}
 use Rattle.st_machine_laws.proofs.Steps.{stays}
 
@@ -80,6 +81,23 @@ over_stays (suc n) (mode.Settle o) s is over = absurd over
 over_stays (suc n) (mode.Begin w) s is over = absurd over
 over_stays (suc n) mode.Next s is over = absurd over
 
+-- and writes nothing
+over_writes : (n : ℕ) (m : Mode) (s : Seen) → s.mode ≡ m → IsOver m → written_by n s ≡ []
+over_writes zero m s is over = refl
+over_writes (suc n) (mode.Ended e) s is over =
+    let none : advance_written s ≡ [] = ap (λ m. written_at m s) is in
+    let same : advanced s ≡ s = ap (λ m. advanced_by m s) is in
+    ap (λ t. t ++ written_by n (advanced s)) none ∙ ap (λ t. written_by n t) same ∙ over_writes n (mode.Ended e) s is over
+over_writes (suc n) mode.Run s is over = absurd over
+over_writes (suc n) (mode.Settle o) s is over = absurd over
+over_writes (suc n) (mode.Begin w) s is over = absurd over
+over_writes (suc n) mode.Next s is over = absurd over
+
+-- the machine stops, since the store isn't sound
+pub record Strands (s : Seen) : Type 0 where
+  pub mode : (advanced s).mode ≡ mode.Ended ending.Stranded
+  pub written : advance_written s ≡ []
+
 not_idle : (m : Mode) → NotNext m → idle m ≡ 0
 not_idle mode.Run h = refl
 not_idle (mode.Settle o) h = refl
@@ -114,10 +132,11 @@ module _ (plan : Plan) where
     pub count : ℕ
     pub moves : Moving s.mode count
     pub counted : instructions B P count (top_of tr ev s) ≡ runs_in s.mode
-    pub leads : top_iter B P count (top_of tr ev s) ≡ top_of (tr ++ step_written s) (ev ++ events_of (advance_told s)) (advanced s)
+    pub leads : top_iter B P count (top_of tr ev s) ≡ top_of (tr ++ advance_written s) (ev ++ events_of (advance_told s)) (advanced s)
 
+  -- some small steps of the flat machine, or the end where the store isn't sound
   abbrev pub StepLaw : Type 0
-  StepLaw = (i : ℕ) (s : Seen) (tr : Text) (ev : List Event) → Holds (at i) s → Reached (top_of tr ev s) → StepsOn s tr ev
+  StepLaw = (i : ℕ) (s : Seen) (tr : Text) (ev : List Event) → Holds (at i) s → Reached (top_of tr ev s) → StepsOn s tr ev ⊎ Strands s
 
   pub record Follows (n i : ℕ) (s : Seen) (tr : Text) (ev : List Event) : Type 0 where
     pub count : ℕ
@@ -167,33 +186,70 @@ module _ (plan : Plan) where
   ran_within mode.Next i l = l
   ran_within (mode.Ended e) i l = l
 
-  module _ (law : StepLaw) where
-    pub follows : (n i : ℕ) (s : Seen) (tr : Text) (ev : List Event) → i ≤ 2 ^ 64 - 1 → Holds (at i) s → Reached (top_of tr ev s) → Follows n i s tr ev
-    follows zero i s tr ev l h r =
-        record {
-          count = 0;
-          leads = ap (λ e. top_of tr e s) (sym (append-nil ev)) ∙ ap (λ t. top_of t (ev ++ []) s) (sym (append-nil tr));
-          counted = refl;
-          moving = λ on. omega arith;
-          begun = i;
-          holds = h;
-          ran = ran_first i l;
-        }
-    follows (suc n) i s tr ev l h r =
-        let c : StepsOn s tr ev = law i s tr ev h r in
-        let r' : Reached (top_of (tr ++ step_written s) (ev ++ events_of (advance_told s)) (advanced s)) = record { count = r.count + c.count; reached = steps_add B P r.count c.count (opened_run B P) ∙ ap (λ t. top_iter B P c.count t) r.reached ∙ c.leads } in
-        let f : Follows n (begun_by s.mode i) (advanced s) (tr ++ step_written s) (ev ++ events_of (advance_told s)) = follows n (begun_by s.mode i) (advanced s) (tr ++ step_written s) (ev ++ events_of (advance_told s)) (ran_within s.mode i l) (stays (at i) s h) r' in
-        let counts : instructions B P c.count (top_of tr ev s) + instructions B P f.count (top_iter B P c.count (top_of tr ev s)) ≡ runs_in s.mode + runs_by n (advanced s) =
+  -- no step at all
+  nowhere : (i : ℕ) (s : Seen) (tr : Text) (ev : List Event) → i ≤ 2 ^ 64 - 1 → Holds (at i) s → Follows zero i s tr ev
+  nowhere i s tr ev l h =
+      record {
+        count = 0;
+        leads = ap (λ e. top_of tr e s) (sym (append-nil ev)) ∙ ap (λ t. top_of t (ev ++ []) s) (sym (append-nil tr));
+        counted = refl;
+        moving = λ on. omega arith;
+        begun = i;
+        holds = h;
+        ran = ran_first i l;
+      }
+
+  -- one step, and those behind it
+  goes_on : (n i : ℕ) (s : Seen) (tr : Text) (ev : List Event) → i ≤ 2 ^ 64 - 1 → StepsOn s tr ev → Follows n (begun_by s.mode i) (advanced s) (tr ++ advance_written s) (ev ++ events_of (advance_told s)) → Follows (suc n) i s tr ev
+  goes_on n i s tr ev l c f =
+      let counts : instructions B P c.count (top_of tr ev s) + instructions B P f.count (top_iter B P c.count (top_of tr ev s)) ≡ runs_in s.mode + runs_by n (advanced s) =
         ap (λ k. k + instructions B P f.count (top_iter B P c.count (top_of tr ev s))) c.counted ∙ ap (λ t. runs_in s.mode + instructions B P f.count t) c.leads ∙ ap (λ k. runs_in s.mode + k) f.counted in
-        record {
-          count = c.count + f.count;
-          leads =
-              steps_add B P c.count f.count (top_of tr ev s) ∙ ap (λ t. top_iter B P f.count t) c.leads ∙ f.leads
-              ∙ ap (λ e. top_of ((tr ++ step_written s) ++ written_by n (advanced s)) e (after n (advanced s))) (append_assoc ev (events_of (advance_told s)) (told_by n (advanced s)))
-              ∙ ap (λ t. top_of t (ev ++ told_by (suc n) s) (after n (advanced s))) (append_assoc tr (step_written s) (written_by n (advanced s)));
-          counted = counts_add B P c.count f.count (top_of tr ev s) ∙ counts;
-          moving = gains s.mode s n c.count f.count refl c.moves f.moving;
-          begun = f.begun;
-          holds = f.holds;
-          ran = ran_more s.mode i (runs_by n (advanced s)) f.begun l f.ran;
-        }
+      record {
+        count = c.count + f.count;
+        leads =
+            steps_add B P c.count f.count (top_of tr ev s) ∙ ap (λ t. top_iter B P f.count t) c.leads ∙ f.leads
+            ∙ ap (λ e. top_of ((tr ++ advance_written s) ++ written_by n (advanced s)) e (after n (advanced s))) (append_assoc ev (events_of (advance_told s)) (told_by n (advanced s)))
+            ∙ ap (λ t. top_of t (ev ++ told_by (suc n) s) (after n (advanced s))) (append_assoc tr (advance_written s) (written_by n (advanced s)));
+        counted = counts_add B P c.count f.count (top_of tr ev s) ∙ counts;
+        moving = gains s.mode s n c.count f.count refl c.moves f.moving;
+        begun = f.begun;
+        holds = f.holds;
+        ran = ran_more s.mode i (runs_by n (advanced s)) f.begun l f.ran;
+      }
+
+  -- the machine stopped where the store wasn't sound, behind so many steps that the flat machine makes too
+  pub record Lost (n i : ℕ) (s : Seen) (tr : Text) (ev : List Event) : Type 0 where
+    pub before : ℕ
+    pub goes : Follows before i s tr ev
+    pub same : written_by n s ≡ written_by before s
+    pub mode : (after n s).mode ≡ mode.Ended ending.Stranded
+
+  strands : (n i : ℕ) (s : Seen) (tr : Text) (ev : List Event) → i ≤ 2 ^ 64 - 1 → Holds (at i) s → Strands s → Lost (suc n) i s tr ev
+  strands n i s tr ev l h x =
+      record {
+        before = 0;
+        goes = nowhere i s tr ev l h;
+        same = ap (λ t. t ++ written_by n (advanced s)) x.written ∙ over_writes n (mode.Ended ending.Stranded) (advanced s) x.mode tt;
+        mode = ap (λ (t : Seen). t.mode) (over_stays n (mode.Ended ending.Stranded) (advanced s) x.mode tt) ∙ x.mode;
+      }
+
+  module _ (law : StepLaw) where
+    mutual_by : (n i : ℕ) (s : Seen) (tr : Text) (ev : List Event) → i ≤ 2 ^ 64 - 1 → StepsOn s tr ev
+        → Follows n (begun_by s.mode i) (advanced s) (tr ++ advance_written s) (ev ++ events_of (advance_told s)) ⊎ Lost n (begun_by s.mode i) (advanced s) (tr ++ advance_written s) (ev ++ events_of (advance_told s))
+        → Follows (suc n) i s tr ev ⊎ Lost (suc n) i s tr ev
+    mutual_by n i s tr ev l c (inl f) = inl (goes_on n i s tr ev l c f)
+    mutual_by n i s tr ev l c (inr x) =
+        inr (record { before = suc x.before; goes = goes_on x.before i s tr ev l c x.goes; same = ap (λ t. advance_written s ++ t) x.same; mode = x.mode })
+
+    further_by : (n i : ℕ) (s : Seen) (tr : Text) (ev : List Event) → i ≤ 2 ^ 64 - 1 → Holds (at i) s → Reached (top_of tr ev s)
+        → (Reached (top_of (tr ++ advance_written s) (ev ++ events_of (advance_told s)) (advanced s)) → Follows n (begun_by s.mode i) (advanced s) (tr ++ advance_written s) (ev ++ events_of (advance_told s)) ⊎ Lost n (begun_by s.mode i) (advanced s) (tr ++ advance_written s) (ev ++ events_of (advance_told s)))
+        → StepsOn s tr ev ⊎ Strands s → Follows (suc n) i s tr ev ⊎ Lost (suc n) i s tr ev
+    further_by n i s tr ev l h r ih (inl c) =
+        mutual_by n i s tr ev l c (ih (record { count = r.count + c.count; reached = steps_add B P r.count c.count (opened_run B P) ∙ ap (λ t. top_iter B P c.count t) r.reached ∙ c.leads }))
+    further_by n i s tr ev l h r ih (inr x) = inr (strands n i s tr ev l h x)
+
+    pub follows : (n i : ℕ) (s : Seen) (tr : Text) (ev : List Event) → i ≤ 2 ^ 64 - 1 → Holds (at i) s → Reached (top_of tr ev s) → Follows n i s tr ev ⊎ Lost n i s tr ev
+    follows zero i s tr ev l h r = inl (nowhere i s tr ev l h)
+    follows (suc n) i s tr ev l h r =
+        further_by n i s tr ev l h r
+        (λ r'. follows n (begun_by s.mode i) (advanced s) (tr ++ advance_written s) (ev ++ events_of (advance_told s)) (ran_within s.mode i l) (stays (at i) s h) r') (law i s tr ev h r)

@@ -29,8 +29,8 @@ use Rattle.st_machine.specs.Opening.{beginning, frame_for, captured_in, in_scope
 use Rattle.st_machine.specs.Initializers.{counted, opened_by, next_opened}
 use Rattle.st_machine.specs.Followed.{Falling}
 use Rattle.st_machine_laws.specs.Holding.{Course, AllWait, Fits, Holds}
-use Rattle.st_machine_laws.proofs.Blocks.{F, W, numbers, firm_stack, firm_memory, firm_counts, firm_popped, falling_further, settles, stops, begins, place, placed, firm_placed, fits_placed, fewer}
-use Rattle.st_machine_laws.proofs.Settling.{with, stand, ends}
+use Rattle.st_machine_laws.proofs.Blocks.{F, W, numbers, firm_stack, firm_memory, firm_counts, firm_popped, falling_further, stops, begins, ends, place, placed, firm_placed, fits_placed, fewer}
+use Rattle.st_machine_laws.proofs.Settling.{with, stand}
 
 -- ---- the first operands
 
@@ -109,8 +109,8 @@ pub enters : {course : Course} → (code : ℕ) (receiver : Value) (env : Env) (
 enters code receiver env s f w h l = opens (record { code = code; receiver = receiver; class = (code_at s.plan.codes code).class; home = None; outer = None; env = env }) s f w h l
 
 applies_by : {course : Course} → (o : Option Closure) (receiver : Value) (env : Env) (s : Seen) → F course s → W s → Fits 0 s → env.0 < s.stack.next → Holds course (beginning (apply_work o receiver env) s)
-applies_by (Some c) receiver env s f w h l = begins (work.Activate c env) s f w h l
-applies_by None receiver env s f w h l = begins (work.SendValue receiver env) s f w h l
+applies_by (Some c) receiver env s f w h l = begins (work.Activate c env) s f w h l tt
+applies_by None receiver env s f w h l = begins (work.SendValue receiver env) s f w h l tt
 
 pub applies : {course : Course} → (receiver : Value) (env : Env) (s : Seen) → F course s → W s → Fits 0 s → env.0 < s.stack.next → Holds course (applied receiver env s)
 applies receiver env s f w h l = applies_by (fitting (closure_in receiver s) s) receiver env s f w h l

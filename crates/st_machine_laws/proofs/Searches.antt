@@ -37,13 +37,13 @@ abbrev searches_of : SearchState → ℕ
 searches_of x = search_allowance (asks_nested x.purpose)
 
 pub judges : {course : Course} → (b : Bool) (x : SearchState) (entry : ℕ) (rest : Env) (s : Seen) → F course s → W s → Fits (searches_of x) s → SearchBelow s.stack.next x → entry < s.stack.next → rest.0 < s.stack.next → Holds course (judged b x entry rest s)
-judges true x entry rest s f w h below e l = begins (work.TurnBy x (Some entry) rest) s f w h ((below, e), l)
-judges false x entry rest s f w h below e l = begins (work.Search x rest) s f w h (below, l)
+judges true x entry rest s f w h below e l = begins (work.TurnBy x (Some entry) rest) s f w h ((below, e), l) tt
+judges false x entry rest s f w h below e l = begins (work.Search x rest) s f w h (below, l) tt
 
 inquires : {course : Course} → (x : SearchState) (entry : Entry) (s : Seen) → F course s → W s → Fits (searches_of x) s → SearchBelow s.stack.next x → entry.protect < s.stack.next → entry.outside.0 < s.stack.next → Holds course (inquired x entry s)
 inquires x entry s f w h below e l =
     place (Holds _) (λ y. sending_one (sends_handles (program_in s.plan)) entry.selector (Object x.exception) entry.outside y) (act.HandlesWait x entry.protect) entry.outside s (numbers (searches_of x) s f h)
-    (begins (work.SendTo (sends_handles (program_in s.plan)) entry.selector entry.outside) (with_passed (placed (act.HandlesWait x entry.protect) entry.outside s) (one_passed (Object x.exception) s.passed)) (firm_placed (act.HandlesWait x entry.protect) entry.outside s f l (below, e)) (tt, w) (fits_placed (searches_of x) 0 (act.HandlesWait x entry.protect) entry.outside s (some_allowance (asks_nested x.purpose)) h) (small entry.outside.0 s.stack.next l))
+    (begins (work.SendTo (sends_handles (program_in s.plan)) entry.selector entry.outside) (with_passed (placed (act.HandlesWait x entry.protect) entry.outside s) (one_passed (Object x.exception) s.passed)) (firm_placed (act.HandlesWait x entry.protect) entry.outside s f l (below, e)) (tt, w) (fits_placed (searches_of x) 0 (act.HandlesWait x entry.protect) entry.outside s (some_allowance (asks_nested x.purpose)) h) (small entry.outside.0 s.stack.next l) tt)
     (stops limit.Depth s f w (fewer (searches_of x) 0 s (omega arith) h))
 
 examines : {course : Course} → (b : Bool) (x : SearchState) (entry : Entry) (s : Seen) → F course s → W s → Fits (searches_of x) s → SearchBelow s.stack.next x → entry.protect < s.stack.next → entry.outside.0 < s.stack.next → Holds course (examined_by b x entry s)
@@ -51,7 +51,7 @@ examines true x entry s f w h below e l = judges (fits_here x entry s) x entry.p
 examines false x entry s f w h below e l = inquires x entry s f w h below e l
 
 searches_at : {course : Course} → (o : Option Entry) (x : SearchState) (rest : Env) (s : Seen) → entry_in rest.0 s.stack.acts ≡ o → F course s → W s → Fits (searches_of x) s → SearchBelow s.stack.next x → Holds course (searched_at o x s)
-searches_at None x rest s is f w h below = begins (work.TurnBy x None x.whole) s f w h ((below, tt), below.0)
+searches_at None x rest s is f w h below = begins (work.TurnBy x None x.whole) s f w h ((below, tt), below.0) tt
 searches_at (Some entry) x rest s is f w h below =
     let n : Names s.stack.next s.stack.acts rest.0 entry = names s.stack.next s.stack.acts f.falling rest.0 entry is in
     let e : entry.protect < s.stack.next = omega (arith, n.number, n.within) in
@@ -67,12 +67,12 @@ module _ {course : Course} (x : SearchState) (outside : Env) (s : Seen) (f : F c
   defaults : Fits 1 s → Holds course (defaulted x outside s)
   defaults h =
       place (Holds _) (λ y. sending (sends_default_action (program_in s.plan)) (Object x.exception) outside y) (act.HandlerRun (turn_for x None outside)) outside s (numbers 1 s f h)
-      (begins (work.SendTo (sends_default_action (program_in s.plan)) (Object x.exception) outside) (with_passed (placed (act.HandlerRun (turn_for x None outside)) outside s) (passing [] s.passed)) (firm_placed (act.HandlerRun (turn_for x None outside)) outside s f l (l, tt)) (tt, w) (fits_placed 1 0 (act.HandlerRun (turn_for x None outside)) outside s (omega arith) h) (small outside.0 s.stack.next l))
+      (begins (work.SendTo (sends_default_action (program_in s.plan)) (Object x.exception) outside) (with_passed (placed (act.HandlerRun (turn_for x None outside)) outside s) (passing [] s.passed)) (firm_placed (act.HandlerRun (turn_for x None outside)) outside s f l (l, tt)) (tt, w) (fits_placed 1 0 (act.HandlerRun (turn_for x None outside)) outside s (omega arith) h) (small outside.0 s.stack.next l) tt)
       (stops limit.Depth s f w (fewer 1 0 s (omega arith) h))
 
   begins_handler : (o : Option Closure) (handler : Value) (y : Seen) → F course y → W y → Fits 0 y → outside.0 < y.stack.next → Holds course (handler_begun o handler x.exception outside (nothing_passed y))
-  begins_handler (Some c) handler y g v h k = begins (work.Activate c outside) (nothing_passed y) g v h k
-  begins_handler None handler y g v h k = begins (work.Apply handler outside) (with_passed y (one_passed (Object x.exception) (passing [] y.passed))) g v h k
+  begins_handler (Some c) handler y g v h k = begins (work.Activate c outside) (nothing_passed y) g v h k tt
+  begins_handler None handler y g v h k = begins (work.Apply handler outside) (with_passed y (one_passed (Object x.exception) (passing [] y.passed))) g v h k tt
 
   handles : (entry : ℕ) → entry < s.stack.next → Fits 1 s → Holds course (handled x entry outside s)
   handles entry e h =
@@ -97,5 +97,5 @@ module _ {course : Course} (x : SearchState) (outside : Env) (s : Seen) (f : F c
 pub asks : {course : Course} → (v : Wait) (k : ℕ) (t : Turn) (env : Env) (s : Seen) → F course s → W s → Fits 1 s → TurnBelow s.stack.next t → env.0 < s.stack.next → Holds course (resumability_asked v k t env s)
 asks v k t env s f w h below l =
     place (Holds _) (λ y. sending (sends_is_resumable (program_in s.plan)) (Object t.exception) env y) (act.ResumeWait v k t) env s (numbers 1 s f h)
-    (begins (work.SendTo (sends_is_resumable (program_in s.plan)) (Object t.exception) env) (with_passed (placed (act.ResumeWait v k t) env s) (passing [] s.passed)) (firm_placed (act.ResumeWait v k t) env s f l below) (tt, w) (fits_placed 1 0 (act.ResumeWait v k t) env s (omega arith) h) (small env.0 s.stack.next l))
+    (begins (work.SendTo (sends_is_resumable (program_in s.plan)) (Object t.exception) env) (with_passed (placed (act.ResumeWait v k t) env s) (passing [] s.passed)) (firm_placed (act.ResumeWait v k t) env s f l below) (tt, w) (fits_placed 1 0 (act.ResumeWait v k t) env s (omega arith) h) (small env.0 s.stack.next l) tt)
     (stops limit.Depth s f w (fewer 1 0 s (omega arith) h))

@@ -23,7 +23,6 @@ use Rattle.st_contexts.specs.Stack.{Standing, operand_pushed, popped}
 use Rattle.st_rules.specs.Flat.{code_at}
 use Rattle.st_machine.specs.declared.work.Mode.{Mode}
 use Rattle.st_machine.specs.declared.work.Mode.TheVariants as mode
-use Rattle.st_machine.specs.declared.work.Ending.{Ending}
 use Rattle.st_machine.specs.declared.work.Work.TheVariants as work
 use Rattle.st_machine.specs.Seen.{Seen, with_mode, with_passed, passing}
 use Rattle.st_machine.specs.Operands.{moved}
@@ -32,9 +31,8 @@ use Rattle.st_machine.specs.Initializers.{target_on, kept_at, value_kept}
 use Rattle.st_machine.specs.Searches.{asks_nested}
 use Rattle.st_machine.specs.Settling.{at_home, at_outer, at_protect, receiver_again, signaled_instead, finished, again, turn_outcome, search_of, searching, pointed, asked, judged, answered_by, protected_by, signaled_by, unwound_by, ended, ending_of, limit_ending, settled}
 use Rattle.st_machine.specs.Followed.{KeptBelow, Below, TurnBelow, SearchBelow, PurposeBelow, EntryBelow, Falling}
-use Rattle.st_machine.proofs.FollowsSettling.{turn_further}
 use Rattle.st_machine_laws.specs.Holding.{Course, AllWait, Fits, search_allowance, outcome_allowance, Holds}
-use Rattle.st_machine_laws.proofs.Blocks.{F, W, numbers, firm_stack, firm_popped, falling_further, settles, stops, begins, leaves, place, placed, firm_placed, fits_placed, fewer}
+use Rattle.st_machine_laws.proofs.Blocks.{F, W, numbers, firm_stack, firm_popped, falling_further, settles, stops, begins, ends, leaves, place, placed, firm_placed, fits_placed, fewer}
 use Rattle.st_machine_laws.proofs.Searches.{judges}
 
 -- the machine with these activations and this mode
@@ -43,11 +41,6 @@ with s acts m = record { plan = s.plan; stack = record { acts = acts; next = s.s
 
 abbrev pub stand : Activation → ℕ → Env → List Value → Standing
 stand k n env ops = record { number = n; kept = k; env = env; operands = ops }
-
--- ---- the end of a run
-
-pub ends : {course : Course} → (e : Ending) (s : Seen) → F course s → W s → Fits 0 s → Holds course (ended e s)
-ends e s f w h = record { firm = f; placed = w; numbers = h; next = tt }
 
 -- ---- the value of an initializer
 
@@ -59,6 +52,13 @@ pub keeps : {course : Course} → (v : Value) (s : Seen) (m : Mode) → F course
 keeps v s m f h = keeps_at (target_on (with s [] m)) v s m f h
 
 -- ---- links to activations further out
+
+entry_further : (n m : ℕ) (entry : Option ℕ) → n < m → EntryBelow n entry → EntryBelow m entry
+entry_further n m None l h = tt
+entry_further n m (Some e) l h = let further : e < m = omega (arith, l, h) in further
+
+pub turn_further : (n m : ℕ) (t : Turn) → n < m → TurnBelow n t → TurnBelow m t
+turn_further n m t l h = (let further : t.outside.0 < m = omega (arith, l, h.0) in further, entry_further n m t.entry l h.1)
 
 purpose_further : (n m : ℕ) (p : Purpose) → n < m → PurposeBelow n p → PurposeBelow m p
 purpose_further n m purpose.Signal l h = tt
@@ -101,10 +101,10 @@ module _ (s : Seen) (m : Mode) (n : ℕ) (env : Env) (ops : List Value) (acts : 
 
   module _ {course : Course} (k : Activation) (f : F course (over k)) (w : AllWait s.plan.codes acts) (h : Fits 2 s) where
     finishes : (block : Value) (held : Outcome) → Holds course (finished block held env (over k))
-    finishes block held = begins (work.Apply block env) (with_passed (over (act.ActionOff held)) (passing [] s.passed)) (firm_kept k (act.ActionOff held) ops f tt) (tt, w) (fewer 2 0 s (omega arith) h) (below_next k f)
+    finishes block held = begins (work.Apply block env) (with_passed (over (act.ActionOff held)) (passing [] s.passed)) (firm_kept k (act.ActionOff held) ops f tt) (tt, w) (fewer 2 0 s (omega arith) h) (below_next k f) tt
 
     begins_again : (receiver selector handler : Value) → Holds course (again n receiver selector handler (over k))
-    begins_again receiver selector handler = begins (work.Apply receiver (record { 0 = n })) (with_passed (over (act.Protect receiver selector handler)) (passing [] s.passed)) (firm_kept k (act.Protect receiver selector handler) ops f tt) (tt, w) (fewer 2 0 s (omega arith) h) f.falling.0.number
+    begins_again receiver selector handler = begins (work.Apply receiver (record { 0 = n })) (with_passed (over (act.Protect receiver selector handler)) (passing [] s.passed)) (firm_kept k (act.Protect receiver selector handler) ops f tt) (tt, w) (fewer 2 0 s (omega arith) h) f.falling.0.number tt
 
     drops : (o : Outcome) → Holds course (with s acts (mode.Settle o))
     drops o = leaves o (over k) f w h
@@ -119,14 +119,14 @@ module _ (s : Seen) (m : Mode) (n : ℕ) (env : Env) (ops : List Value) (acts : 
         let further : s.stack.next < s.stack.next + 1 = omega arith in
         let t' : TurnBelow (s.stack.next + 1) t = turn_further s.stack.next (s.stack.next + 1) t further below in
         place (Holds _) (λ y. searching (search_of who t (purpose.Outer t s.stack.next)) y) act.Outer env dropped (numbers 2 dropped (firm_without k f) h)
-        (begins (work.Search (search_of who t (purpose.Outer t s.stack.next)) t.outside) (placed act.Outer env dropped) (firm_placed act.Outer env dropped (firm_without k f) (below_next k f) tt) (tt, w) (fits_placed 2 1 act.Outer env dropped (omega arith) h) ((t'.0, t'), t'.0))
+        (begins (work.Search (search_of who t (purpose.Outer t s.stack.next)) t.outside) (placed act.Outer env dropped) (firm_placed act.Outer env dropped (firm_without k f) (below_next k f) tt) (tt, w) (fits_placed 2 1 act.Outer env dropped (omega arith) h) ((t'.0, t'), t'.0) tt)
         (stops limit.Depth dropped (firm_without k f) w (fewer 2 0 dropped (omega arith) h))
 
     asks_so : (b : Bool) (v : Wait) (who : ℕ) (t : Turn) → TurnBelow s.stack.next t → Holds course (asked b v who t env dropped)
     asks_so true (wait.Resume v) who t below = settles (outcome.Go (target.Resume t.resume_point) v) dropped (firm_without k f) w h
-    asks_so false (wait.Resume v) who t below = begins (work.Fail NotResumable env) dropped (firm_without k f) w h (below_next k f)
+    asks_so false (wait.Resume v) who t below = begins (work.Fail NotResumable env) dropped (firm_without k f) w h (below_next k f) tt
     asks_so true wait.Outer who t below = points who t below
-    asks_so false wait.Outer who t below = begins (work.Search (search_of who t (purpose.Pass t)) t.outside) dropped (firm_without k f) w (fewer 2 1 dropped (omega arith) h) ((below.0, below), below.0)
+    asks_so false wait.Outer who t below = begins (work.Search (search_of who t (purpose.Pass t)) t.outside) dropped (firm_without k f) w (fewer 2 1 dropped (omega arith) h) ((below.0, below), below.0) tt
 
   -- ---- a value
 
@@ -145,7 +145,7 @@ module _ (s : Seen) (m : Mode) (n : ℕ) (env : Env) (ops : List Value) (acts : 
       let l : entry < s.stack.next = omega (arith, f.falling.0.number, f.falling.0.kept.1) in
       judges (is_true v) x entry env (with s acts m) (firm_without (act.HandlesWait x entry) f) w.1 (fewer 2 (search_allowance (asks_nested x.purpose)) s (most_allowance (asks_nested x.purpose)) h)
       (search_further n s.stack.next x f.falling.0.number f.falling.0.kept.0) l (below_next (act.HandlesWait x entry) f)
-  answers_by (act.Loop l) v f w h = begins (work.Visit n l v env) (over (act.Loop l)) f w h tt
+  answers_by (act.Loop l) v f w h = begins (work.Visit n l v env) (over (act.Loop l)) f w h (below_next (act.Loop l) f) (refl, refl)
 
   -- ---- an unwinding
 
@@ -154,7 +154,7 @@ module _ (s : Seen) (m : Mode) (n : ℕ) (env : Env) (ops : List Value) (acts : 
   protects None k selector handler out f w h = drops k f w h out
 
   resignals : {course : Course} → (o : Option ℕ) (k : Activation) (out : Outcome) → F course (over k) → AllWait s.plan.codes (stand k n env ops ∷ acts) → Fits 2 s → Holds course (signaled_by o out env (over k))
-  resignals (Some other) k out f w h = begins (work.Raise other env) (over k) f w h (below_next k f)
+  resignals (Some other) k out f w h = begins (work.Raise other env) (over k) f w h (below_next k f) tt
   resignals None k out f w h = drops k f w.1 h out
 
   pub unwinds_by : {course : Course} → (k : Activation) (t : Target) (v : Value) → F course (over k) → AllWait s.plan.codes (stand k n env ops ∷ acts) → Fits 2 s → Holds course (unwound_by k n env t v (over k))

@@ -25,10 +25,10 @@ small n m l = omega (arith, l)
 -- ---- an exception that is there
 
 raises_by : {course : Course} → (b : Bool) (e : ℕ) (env : Env) (s : Seen) → F course s → W s → Fits 2 s → env.0 < s.stack.next → Holds course (raised_by b e env s)
-raises_by true e env s f w h l = begins (work.Fail AlreadySignaled env) s f w h l
+raises_by true e env s f w h l = begins (work.Fail AlreadySignaled env) s f w h l tt
 raises_by false e env s f w h l =
     place (Holds _) (λ x. searching (signal_search s.stack.next e env) x) (act.Signal e) env s (numbers 2 s f h)
-    (begins (work.Search (signal_search s.stack.next e env) env) (placed (act.Signal e) env s) (firm_placed (act.Signal e) env s f l tt) (tt, w) (fits_placed 2 1 (act.Signal e) env s (omega arith) h) ((small env.0 s.stack.next l, tt), small env.0 s.stack.next l))
+    (begins (work.Search (signal_search s.stack.next e env) env) (placed (act.Signal e) env s) (firm_placed (act.Signal e) env s f l tt) (tt, w) (fits_placed 2 1 (act.Signal e) env s (omega arith) h) ((small env.0 s.stack.next l, tt), small env.0 s.stack.next l) tt)
     (stops limit.Depth s f w (fewer 2 0 s (omega arith) h))
 
 pub raises : {course : Course} → (e : ℕ) (env : Env) (s : Seen) → F course s → W s → Fits 2 s → env.0 < s.stack.next → Holds course (raised e env s)
@@ -50,7 +50,7 @@ module _ {course : Course} (class count : ℕ) (slots : List Value) (env : Env) 
       let e' : ℕ = length s.memory.store.objects in
       let s' : Seen = with_memory (placed (act.Signal e') env s) (record { store = store; used = used; limit = s.memory.limit }) in
       let firm : F course s' = firm_memory s.plan s.memory s.passed.room s.steps s.initializers s.instructions (placed (act.Signal e') env s).stack store used (firm_placed (act.Signal e') env s f l tt) (within_limit used s.memory.limit e) in
-      rw e (begins (work.Search (signal_search s.stack.next e' env) env) s' firm (tt, w) (fits_placed 2 1 (act.Signal e') env s (omega arith) h) ((small env.0 s.stack.next l, tt), small env.0 s.stack.next l))
+      rw e (begins (work.Search (signal_search s.stack.next e' env) env) s' firm (tt, w) (fits_placed 2 1 (act.Signal e') env s (omega arith) h) ((small env.0 s.stack.next l, tt), small env.0 s.stack.next l) tt)
   makes_by false e =
       let dropped : Seen = with_stack (placed (act.Signal 0) env s) (popped (placed (act.Signal 0) env s).stack) in
       rw e (stops limit.Cells dropped (firm_popped (placed (act.Signal 0) env s) (firm_placed (act.Signal 0) env s f l tt)) w (fits_placed 2 0 (act.Signal 0) env s (omega arith) h))

@@ -27,7 +27,6 @@ use Rattle.st_rules.specs.Turns.{Top, Ended, open_next, opened_run, top_iter, in
 use Rattle.st_rules.proofs.SameRun.{flat_run_is_the_rules_run}
 use Rattle.st_rules.proofs.SomeRun.{rules_end}
 use Rattle.st_rules.proofs.SoFar.{flat_so_far}
-use Rattle.st_rules.proofs.NeverStuck.{rules_never_stuck}
 use Rattle.st_rules.proofs.SoundProgram.{programs_are_compilable}
 use Rattle.st_machine.specs.declared.work.Ending.{Ending}
 use Rattle.st_machine.specs.declared.work.Ending.TheVariants as ending
@@ -39,10 +38,10 @@ use Rattle.st_machine.specs.Steps.{first_seen, advanced_by, advanced}
 use Rattle.st_machine.specs.Meaning.{flat_of, running_by, running, top_by, top_of, state_of, ending_of, behind}
 use Rattle.st_machine_laws.specs.Holding.{Holds}
 use Rattle.st_machine_laws.specs.Moments.{after, told_by, written_by, runs_by, state_after}
-use Rattle.st_machine_laws.specs.WholeRun.{Opened, EndsAfter, IsRun}
+use Rattle.st_machine_laws.specs.WholeRun.{Opened, EndsAsTheRules, IsRun}
 use Rattle.st_machine_laws.proofs.Idle.{NotNext, next_goes_on}
 use Rattle.st_machine_laws.proofs.Steps.{first}
-use Rattle.st_machine_laws.proofs.Moments.{P, B, at, Reached, StepLaw, Follows, follows, ended_stays, steps_add, after_last, IsOver}
+use Rattle.st_machine_laws.proofs.Moments.{P, B, at, Reached, StepLaw, Follows, Lost, follows, ended_stays, steps_add, after_last, IsOver}
 
 -- ---- a mode that is over
 
@@ -124,7 +123,7 @@ module _ (plan : Plan) (memory : Memory) (o : Opened plan memory) (law : StepLaw
   reached : Reached plan (top_of [] [] s0)
   reached = record { count = 0; reached = sym top_first }
 
-  at_moment : (n : ℕ) → Follows plan n 0 s0 [] []
+  at_moment : (n : ℕ) → Follows plan n 0 s0 [] [] ⊎ Lost plan n 0 s0 [] []
   at_moment n = follows plan law n 0 s0 [] [] (omega arith) (first plan memory o.moderate o.ready) reached
 
   -- ---- the end
@@ -155,26 +154,25 @@ module _ (plan : Plan) (memory : Memory) (o : Opened plan memory) (law : StepLaw
       sym c.leads ∙ ap (λ t. top_iter (B plan) (P plan) c.count t) top_first ∙ ap (λ k. top_iter (B plan) (P plan) k (opened_run (B plan) (P plan))) (sym rest)
       ∙ steps_add (B plan) (P plan) f.steps (c.count - f.steps) (opened_run (B plan) (P plan)) ∙ ap (λ t. top_iter (B plan) (P plan) (c.count - f.steps) t) f.ends ∙ ended_stays (B plan) (P plan) (c.count - f.steps) f.ending f.state
 
-  ends_at : (n : ℕ) → IsOver (after n s0).mode → IsRun plan s0
-  ends_at n over =
+  ends_at : (n : ℕ) (c : Follows plan n 0 s0 [] []) → IsOver (after n s0).mode → IsRun plan s0
+  ends_at n c over =
       let x : Over (after n s0).mode = ending_in (after n s0).mode over in
-      let c : Follows plan n 0 s0 [] [] = at_moment n in
       let leads : top_iter (B plan) (P plan) c.count (opened_run (B plan) (P plan)) ≡ Ended (ending_of x.ending) (state_after n s0) =
-      ap (λ t. top_iter (B plan) (P plan) c.count t) (sym top_first) ∙ c.leads ∙ ap (λ m. top_by m (after n s0) (state_after n s0)) x.is in
+        ap (λ t. top_iter (B plan) (P plan) c.count t) (sym top_first) ∙ c.leads ∙ ap (λ m. top_by m (after n s0) (state_after n s0)) x.is in
       let counted : instructions (B plan) (P plan) c.count (opened_run (B plan) (P plan)) ≡ runs_by n s0 = ap (λ t. instructions (B plan) (P plan) c.count t) (sym top_first) ∙ c.counted in
       let runs : MachineRuns (flattened.flat_of (P plan)) (P plan) (ending_of x.ending) (state_after n s0) (runs_by n s0) =
-      subst (λ b. MachineRuns b (P plan) (ending_of x.ending) (state_after n s0) (runs_by n s0)) (sym same_bodies) (record { steps = c.count; leads = leads; counted = counted }) in
+        subst (λ b. MachineRuns b (P plan) (ending_of x.ending) (state_after n s0) (runs_by n s0)) (sym same_bodies) (record { steps = c.count; leads = leads; counted = counted }) in
       let all : 0 + runs_by n s0 ≡ runs_by n s0 = omega arith in
       let (st, r, alike) = same_run.of_the_machine (ending_of x.ending) (state_after n s0) (runs_by n s0) runs in
       record {
         steps = n;
         ending = x.ending;
-        ends = record { ended = x.is; runs = runs; counted = c.holds.firm.ran ∙ c.ran ∙ ap (λ k. min k (2 ^ 64 - 1)) all };
-        never = λ is. rules_never_stuck (P plan) st (subst (λ e. Runs (P plan) e st) (ap ending_of is) r);
-        state = st;
-        rules = r;
-        alike = alike;
+        ended = x.is;
+        follows = λ no. record { runs = runs; counted = c.holds.firm.ran ∙ c.ran ∙ ap (λ k. min k (2 ^ 64 - 1)) all; state = st; rules = r; alike = alike };
       }
+
+  lost_at : (n : ℕ) → Lost plan n 0 s0 [] [] → IsRun plan s0
+  lost_at n x = record { steps = n; ending = ending.Stranded; ended = x.mode; follows = λ no. absurd (no refl) }
 
   -- the next step ends it
   one_more : (n : ℕ) (f : FlatEnds) → (IsOver (after n s0).mode → ⊥) → top_of (written_by n s0) (told_by n s0) (after n s0) ≡ Ended f.ending f.state → (after n s0).mode ≡ mode.Next
@@ -184,33 +182,47 @@ module _ (plan : Plan) (memory : Memory) (o : Opened plan memory) (law : StepLaw
       by (inl h) = absurd (not (over_top (after n s0).mode (after n s0) (state_after n s0) f.ending f.state h top))
       by (inr is) = is
 
-  ends_behind : (n : ℕ) (f : FlatEnds) → f.steps + f.steps + 2 ≤ n → (after n s0).mode ≡ mode.Next → IsOver (after (suc n) s0).mode ⊎ (IsOver (after (suc n) s0).mode → ⊥) → IsRun plan s0
-  ends_behind n f l is (inl over) = ends_at (suc n) over
-  ends_behind n f l is (inr not) =
-      let c : Follows plan (suc n) 0 s0 [] [] = at_moment (suc n) in
+  ends_behind : (n : ℕ) (f : FlatEnds) → f.steps + f.steps + 2 ≤ n → (after n s0).mode ≡ mode.Next → (c : Follows plan (suc n) 0 s0 [] []) → IsOver (after (suc n) s0).mode ⊎ (IsOver (after (suc n) s0).mode → ⊥) → IsRun plan s0
+  ends_behind n f l is c (inl over) = ends_at (suc n) c over
+  ends_behind n f l is c (inr not) =
       let more : suc n ≤ c.count + c.count + 1 = c.moving not in
       let enough : f.steps ≤ c.count = omega (arith, l, more) in
       let goes : NotNext (after (suc n) s0).mode = rw (after_last n s0) (next_advanced (after n s0) is) in
       absurd (not (over_top (after (suc n) s0).mode (after (suc n) s0) (state_after (suc n) s0) f.ending f.state goes (later (suc n) f c enough)))
 
-  ends_by : (n : ℕ) (f : FlatEnds) → f.steps + f.steps + 2 ≤ n → IsOver (after n s0).mode ⊎ (IsOver (after n s0).mode → ⊥) → IsRun plan s0
-  ends_by n f l (inl over) = ends_at n over
-  ends_by n f l (inr not) =
-      let c : Follows plan n 0 s0 [] [] = at_moment n in
+  behind_by : (n : ℕ) (f : FlatEnds) → f.steps + f.steps + 2 ≤ n → (after n s0).mode ≡ mode.Next → Follows plan (suc n) 0 s0 [] [] ⊎ Lost plan (suc n) 0 s0 [] [] → IsRun plan s0
+  behind_by n f l is (inl c) = ends_behind n f l is c (over_or (after (suc n) s0).mode)
+  behind_by n f l is (inr x) = lost_at (suc n) x
+
+  ends_by : (n : ℕ) (f : FlatEnds) → f.steps + f.steps + 2 ≤ n → (c : Follows plan n 0 s0 [] []) → IsOver (after n s0).mode ⊎ (IsOver (after n s0).mode → ⊥) → IsRun plan s0
+  ends_by n f l c (inl over) = ends_at n c over
+  ends_by n f l c (inr not) =
       let more : n ≤ c.count + c.count + 1 = c.moving not in
       let enough : f.steps ≤ c.count = omega (arith, l, more) in
-      ends_behind n f l (one_more n f not (later n f c enough)) (over_or (after (suc n) s0).mode)
+      behind_by n f l (one_more n f not (later n f c enough)) (at_moment (suc n))
+
+  run_by : (n : ℕ) (f : FlatEnds) → f.steps + f.steps + 2 ≤ n → Follows plan n 0 s0 [] [] ⊎ Lost plan n 0 s0 [] [] → IsRun plan s0
+  run_by n f l (inl c) = ends_by n f l c (over_or (after n s0).mode)
+  run_by n f l (inr x) = lost_at n x
 
   pub is_run : IsRun plan s0
   is_run =
       let f : FlatEnds = flat_ends in
-      ends_by (f.steps + f.steps + 2) f (omega arith) (over_or (after (f.steps + f.steps + 2) s0).mode)
+      run_by (f.steps + f.steps + 2) f (omega arith) (at_moment (f.steps + f.steps + 2))
+
+  -- ---- what was written
+
+  so_far_by : (e : rules.Ending) (st : State) → Runs (P plan) e st → (n : ℕ) → Follows plan n 0 s0 [] [] → Begins (written_by n s0) st.transcript
+  so_far_by e st r n c =
+      let top : top_iter (flattened.flat_of (P plan)) (P plan) c.count (opened_run (flattened.flat_of (P plan)) (P plan)) ≡ top_of (written_by n s0) (told_by n s0) (after n s0) =
+        ap (λ b. top_iter b (P plan) c.count (opened_run b (P plan))) same_bodies ∙ ap (λ t. top_iter (B plan) (P plan) c.count t) (sym top_first) ∙ c.leads in
+      let text : written (top_iter (flattened.flat_of (P plan)) (P plan) c.count (opened_run (flattened.flat_of (P plan)) (P plan))) ≡ written_by n s0 =
+        ap written top ∙ written_top (after n s0).mode (after n s0) (state_after n s0) in
+      subst (λ (t : Text). Begins t st.transcript) text (flat_so_far (P plan) compilable e st r c.count)
+
+  so_far_at : (e : rules.Ending) (st : State) → Runs (P plan) e st → (n : ℕ) → Follows plan n 0 s0 [] [] ⊎ Lost plan n 0 s0 [] [] → Begins (written_by n s0) st.transcript
+  so_far_at e st r n (inl c) = so_far_by e st r n c
+  so_far_at e st r n (inr x) = subst (λ (t : Text). Begins t st.transcript) (sym x.same) (so_far_by e st r x.before x.goes)
 
   pub so_far : (e : rules.Ending) (st : State) → Runs (P plan) e st → (n : ℕ) → Begins (written_by n s0) st.transcript
-  so_far e st r n =
-      let c : Follows plan n 0 s0 [] [] = at_moment n in
-      let top : top_iter (flattened.flat_of (P plan)) (P plan) c.count (opened_run (flattened.flat_of (P plan)) (P plan)) ≡ top_of (written_by n s0) (told_by n s0) (after n s0) =
-      ap (λ b. top_iter b (P plan) c.count (opened_run b (P plan))) same_bodies ∙ ap (λ t. top_iter (B plan) (P plan) c.count t) (sym top_first) ∙ c.leads in
-      let text : written (top_iter (flattened.flat_of (P plan)) (P plan) c.count (opened_run (flattened.flat_of (P plan)) (P plan))) ≡ written_by n s0 =
-      ap written top ∙ written_top (after n s0).mode (after n s0) (state_after n s0) in
-      subst (λ (t : Text). Begins t st.transcript) text (flat_so_far (P plan) compilable e st r c.count)
+  so_far e st r n = so_far_at e st r n (at_moment n)

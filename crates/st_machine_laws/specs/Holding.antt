@@ -13,10 +13,10 @@ use Rattle.st_machine.specs.declared.work.Mode.TheVariants as mode
 use Rattle.st_machine.specs.declared.work.Work.{Work}
 use Rattle.st_machine.specs.declared.work.Work.TheVariants as work
 use Rattle.st_machine.specs.Seen.{Plan, Seen}
-use Rattle.st_machine.specs.Plans.{program_in}
+use Rattle.st_machine.specs.Plans.{program_in, room_in}
 use Rattle.st_machine.specs.Initializers.{seen_initializer}
 use Rattle.st_machine.specs.Searches.{asks_nested}
-use Rattle.st_machine.specs.Followed.{Roomy, Falling, IsBody, WorkBelow}
+use Rattle.st_machine.specs.Followed.{Roomy, Falling, CanGoOn}
 
 -- ---- a program that is small enough
 
@@ -43,7 +43,8 @@ pub record Firm (course : Course) (plan : Plan) (stack : Stack) (memory : Memory
   pub troubles : plan.troubles ≡ (program_in plan).trouble_place
   pub roomy : Roomy plan.codes stack.width
   pub space : 0 < stack.width
-  pub passes : room ≡ stack.width
+  pub passes : stack.width ≤ room
+  pub arguments : room ≡ room_in plan
   pub depth : stack.depth ≡ (program_in plan).depth_limit
   pub cells : memory.limit ≡ (program_in plan).cell_limit
   pub within : memory.used ≤ memory.limit
@@ -115,24 +116,12 @@ Fits n s = s.stack.next + n ≤ 3 + s.initializers + 3 * s.steps
 
 -- ---- what comes next
 
-abbrev pub WorkNames : ℕ → Work → Type 0
-WorkNames n (work.SendValue receiver env) = env.0 < n
-WorkNames n (work.SendTo selector receiver env) = env.0 < n
-WorkNames n (work.SuperTo class selector receiver env) = env.0 < n
-WorkNames n w = WorkBelow n w
-
-abbrev pub GoesOn : Mode → Seen → Type 0
-GoesOn mode.Run s = IsBody s.stack.acts
-GoesOn (mode.Begin w) s = WorkNames s.stack.next w
-GoesOn mode.Next s = s.stack.acts ≡ []
-GoesOn _ s = Unit {0}
-
 -- on its course
 pub record Holds (course : Course) (s : Seen) : Type 0 where
   pub firm : Firm course s.plan s.stack s.memory s.passed.room s.steps s.initializers s.instructions
   pub placed : Placed s.mode s.plan.codes s.stack.acts
   pub numbers : Fits (allowance s.mode) s
-  pub next : GoesOn s.mode s
+  pub next : CanGoOn s.mode s
 
 -- one more instruction, where one comes next
 abbrev pub begun_by : Mode → ℕ → ℕ

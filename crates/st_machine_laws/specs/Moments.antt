@@ -4,7 +4,7 @@ use Rattle.st_code.specs.Texts.{Text}
 use Rattle.st_rules.specs.Events.{Event}
 use Rattle.st_rules.specs.State.{State}
 use Rattle.st_machine.specs.Seen.{Seen}
-use Rattle.st_machine.specs.Steps.{advanced, advance_told}
+use Rattle.st_machine.specs.Steps.{advanced, advance_told, advance_written}
 use Rattle.st_machine.specs.Meaning.{events_of, state_of}
 use Rattle.st_machine.specs.Followed.{runs_in}
 
@@ -16,12 +16,9 @@ abbrev pub told_by : ℕ → Seen → List Event
 told_by zero s = []
 told_by (suc n) s = events_of (advance_told s) ++ told_by n (advanced s)
 
-abbrev pub step_written : Seen → Text
-step_written s = []
-
 abbrev pub written_by : ℕ → Seen → Text
 written_by zero s = []
-written_by (suc n) s = step_written s ++ written_by n (advanced s)
+written_by (suc n) s = advance_written s ++ written_by n (advanced s)
 
 -- the instructions among these steps
 abbrev pub runs_by : ℕ → Seen → ℕ

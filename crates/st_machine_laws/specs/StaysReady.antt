@@ -2,7 +2,7 @@
 use Rattle.object_heap.specs.Charges.{Memory}
 use Rattle.st_machine.specs.Seen.{Plan, Seen}
 use Rattle.st_machine.specs.Steps.{first_seen, advanced}
-use Rattle.st_machine.specs.Followed.{Ready}
+use Rattle.st_machine.specs.Followed.{IsSound, Ready}
 use Rattle.st_machine_laws.specs.Holding.{Moderate, Course, Holds, further, course_of}
 
 -- at the beginning, where the machine is ready and the program moderate
@@ -14,4 +14,4 @@ abbrev pub StaysSo : Type 0
 StaysSo = (course : Course) (s : Seen) → Holds course s → Holds (further s.mode course) (advanced s)
 
 abbrev pub MakesReady : Type 0
-MakesReady = (course : Course) (s : Seen) → Holds course s → Ready s
+MakesReady = (course : Course) (s : Seen) → Holds course s → IsSound s.mode s → Ready s

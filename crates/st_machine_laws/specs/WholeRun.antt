@@ -25,22 +25,21 @@ pub record Opened (plan : Plan) (memory : Memory) : Type 0 where
   pub store : memory.store ≡ (first_state (program_in plan)).store
   pub unused : memory.used ≡ 0
 
--- after so many small steps the run has ended, as the flat machine's does
-pub record EndsAfter (plan : Plan) (first : Seen) (steps : ℕ) (ending : Ending) : Type 0 where
-  pub ended : (after steps first).mode ≡ mode.Ended ending
+-- after so many small steps the run has ended as the flat machine ends it, and so as the rules do
+pub record EndsAsTheRules (plan : Plan) (first : Seen) (steps : ℕ) (ending : Ending) : Type 0 where
   pub runs : MachineRuns (flat_of (program_in plan)) (program_in plan) (ending_of ending) (state_after steps first) (runs_by steps first)
   -- a count stands still at the end of its type
   pub counted : (after steps first).instructions ≡ min (runs_by steps first) (2 ^ 64 - 1)
-
-pub record IsRun (plan : Plan) (first : Seen) : Type 0 where
-  pub steps : ℕ
-  pub ending : Ending
-  pub ends : EndsAfter plan first steps ending
-  pub never : ending ≡ Stranded → ⊥
-  -- and as the rules end it
   pub state : State
   pub rules : Runs (program_in plan) (ending_of ending) state
   pub alike : Alike state (state_after steps first)
+
+-- the machine's run ends; and as the rules', unless it finds a store that isn't sound
+pub record IsRun (plan : Plan) (first : Seen) : Type 0 where
+  pub steps : ℕ
+  pub ending : Ending
+  pub ended : (after steps first).mode ≡ mode.Ended ending
+  pub follows : (ending ≡ Stranded → ⊥) → EndsAsTheRules plan first steps ending
 
 abbrev pub RunsAsTheRules : Type 0
 RunsAsTheRules = (plan : Plan) (memory : Memory) → Opened plan memory → IsRun plan (first_seen plan memory)

@@ -10,3 +10,4 @@ pub mod Puts
 pub mod RowLaws
 pub mod SendLaws
 pub mod SlotPuts
+pub mod Sound

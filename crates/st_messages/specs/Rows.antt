@@ -1,5 +1,5 @@
 -- The rows of the table of built-in messages that these rows are.
-use Rattle.std.specs.Prelude.{List, map, Option, Some, None}
+use Rattle.std.specs.Prelude.{List, map, take, Option, Some, None}
 use Rattle.st_code.specs.Messages.{ObjectMessage, ClassMessage, BooleanMessage, TranscriptMessage, BlockMessage, ExceptionMessage, CollectionMessage as CollectionRow, Row, Objects, Classes, Booleans, Numbers, Characters, Transcripts, Strings, Sequences, Collections, Blocks, Exceptions, Loops, Slots}
 use Rattle.st_code.specs.BuiltIns.{BuiltInMessage, numbered_messages}
 use Rattle.st_collections.specs.declared.message.OfMaking.{OfMaking}
@@ -16,6 +16,7 @@ use Rattle.st_messages.specs.declared.row.OfTranscript.{OfTranscript}
 use Rattle.st_messages.specs.declared.row.OfBlock.{OfBlock}
 use Rattle.st_messages.specs.declared.row.OfSelector.{OfSelector}
 use Rattle.st_messages.specs.declared.row.OfException.{OfException}
+use Rattle.st_loops.specs.Kinds.{message_of}
 use Rattle.st_messages.specs.Replies.{control_row}
 
 abbrev pub question_row : OfQuestion → ObjectMessage
@@ -144,18 +145,21 @@ table_row (MessageRow.Pair m) = pair_row m
 table_row (MessageRow.Block m) = Blocks (block_row m)
 table_row (MessageRow.Selector m) = Exceptions (selector_row m)
 table_row (MessageRow.Exception m) = Exceptions (exception_row m)
+table_row (MessageRow.Loop kind) = Loops (message_of kind)
 table_row (MessageRow.Slot slot) = Slots slot
 
 -- the rows that are here
 abbrev pub at_once : Row → Option Row
 at_once (Objects ObjectMessage.Copy) = None
 at_once (Numbers m) = None
-at_once (Loops m) = None
 at_once row = Some row
 
 abbrev pub row_at_once : BuiltInMessage → Option Row
 row_at_once m = at_once m.row
 
--- those of all messages, by number
+-- those of all messages, by number; the last are all loops
 unfoldable pub at_once_rows : List (Option Row)
 at_once_rows = map row_at_once numbered_messages
+
+unfoldable pub plain_rows : List (Option Row)
+plain_rows = take 278 (map row_at_once numbered_messages)

@@ -115,7 +115,7 @@ fn unkept_pieces<H: Heap, P: ProgramFacts>(heap: &H, program: &P, exception: u32
 
 /// The pieces of the text of an exception.
 #[tactic(auto, unfolding(st_collections::specs::Kinds::exception_text, st_collections::specs::Kinds::bytes_of, st_collections::specs::Kinds::slot_of, st_collections::specs::Kinds::slots_of))]
-pub(crate) fn exception_pieces<H: Heap, P: ProgramFacts>(
+pub fn exception_pieces<H: Heap, P: ProgramFacts>(
     heap: &H,
     program: &P,
     exception: u32,

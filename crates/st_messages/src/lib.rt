@@ -12,7 +12,9 @@ mod exception_texts;
 mod exceptions;
 mod facts;
 mod indexed;
+mod law;
 mod level;
+mod loops;
 mod makers;
 mod objects;
 mod performs;
@@ -34,15 +36,20 @@ pub use booleans::boolean_message;
 pub use classes::class_message;
 pub use collections::collection_reply;
 pub use dispatch::{row_message, send_message, super_message};
+pub use exception_texts::exception_pieces;
 pub use exceptions::exception_message;
 pub use facts::ProgramFacts;
+pub use law::what_is_ready_is_done;
+pub use loops::loop_reply;
 pub use objects::object_message;
+pub use pieces::{Piece, Words, words_of};
 pub use reply::{Control, Passed, Reply, Written};
 pub use row::{
     MessageRow, OfBlock, OfBoolean, OfClass, OfException, OfMaker, OfObject, OfQuestion,
     OfSelector, OfTranscript,
 };
 pub use selectors::selector_message;
+pub use spelling::{arity_of, name_of};
 pub use table::row_of;
 pub use transcripts::transcript_message;
 

@@ -1,6 +1,7 @@
 // The rows of the table of built-in messages, by what they do.
 use crate::reply::Control;
 use st_collections::{OfCharacter, OfOrdered, OfPair, OfSequence, OfString};
+use st_loops::LoopKind;
 
 /// A row of the table of built-in messages that acts at once (ANSI NCITS 319, 5).
 #[derive(Clone, Copy, Debug, PartialEq, Eq)]
@@ -18,6 +19,7 @@ pub enum MessageRow {
     Block(OfBlock),
     Selector(OfSelector),
     Exception(OfException),
+    Loop(LoopKind),
     /// Answers the receiver's slot at this place, from 0.
     Slot(u32),
 }

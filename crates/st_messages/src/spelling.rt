@@ -146,7 +146,7 @@ pub(crate) fn is_bare(text: &[u8]) -> bool
 
 /// How many arguments a message of this selector has.
 #[tactic(auto, unfolding(st_code::specs::Texts::arity))]
-pub(crate) fn arity_of(text: &[u8]) -> usize
+pub fn arity_of(text: &[u8]) -> usize
     ensures { result ≡ arity text.now }
 {
     if is_keywords_text(text) {
@@ -157,7 +157,7 @@ pub(crate) fn arity_of(text: &[u8]) -> usize
 
 /// The text of a symbol, empty where there is no such symbol.
 #[tactic(auto, unfolding(st_code::specs::Program::name_at))]
-pub(crate) fn name_of<P: ProgramFacts>(program: &P, name: u32) -> &[u8]
+pub fn name_of<P: ProgramFacts>(program: &P, name: u32) -> &[u8]
     ensures { result.now ≡ name_at (P.meaning program.now) name }
 {
     let names = program.names();

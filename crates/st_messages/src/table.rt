@@ -2,7 +2,7 @@
 ghost use Rattle.std.specs.Prelude.{◌≡◌, map};
 ghost use Rattle.std.specs.Option.{option_map};
 ghost use Rattle.st_code.specs.BuiltIns.{numbered_row};
-ghost use Rattle.st_messages.specs.Rows.{at_once, at_once_rows, table_row};
+ghost use Rattle.st_messages.specs.Rows.{at_once, plain_rows, table_row};
 
 use crate::reply::Control;
 use crate::row::{
@@ -10,19 +10,23 @@ use crate::row::{
     OfSelector, OfTranscript,
 };
 use st_collections::{OfCharacter, OfOrdered, OfPair, OfSequence, OfString};
+use st_loops::loop_kind;
 
-// The rows that act at once, in the order of their numbers.
+// The rows before the loops, in the order of their numbers.
 fn rows() -> &'static [Option<MessageRow>]
-    ensures { map (option_map table_row) result.now ≡ at_once_rows }
+    ensures { map (option_map table_row) result.now ≡ plain_rows }
 {
     &ROWS
 }
 
 /// What the message with this number does. None where that isn't done here: for messages to
-/// numbers, loops and `copy`.
+/// numbers and for `copy`.
 pub fn row_of(message: u16) -> Option<MessageRow>
     ensures { option_map table_row result ≡ at_once (numbered_row message) }
 {
+    if let Some(kind) = loop_kind(message) {
+        return Some(MessageRow::Loop(kind));
+    }
     let rows = rows();
     if message as usize >= rows.len() {
         return Some(MessageRow::Object(OfObject::Question(OfQuestion::Same)));
@@ -30,7 +34,7 @@ pub fn row_of(message: u16) -> Option<MessageRow>
     rows[message as usize]
 }
 
-static ROWS: [Option<MessageRow>; 416] = [
+static ROWS: [Option<MessageRow>; 278] = [
     Some(MessageRow::Object(OfObject::Question(OfQuestion::Same))),
     Some(MessageRow::Object(OfObject::Question(OfQuestion::Same))),
     Some(MessageRow::Object(OfObject::Question(OfQuestion::NotSame))),
@@ -309,142 +313,4 @@ static ROWS: [Option<MessageRow>; 416] = [
     Some(MessageRow::Slot(1)),
     Some(MessageRow::Selector(OfSelector::Join)),
     Some(MessageRow::Selector(OfSelector::Handles)),
-    None,
-    None,
-    None,
-    None,
-    None,
-    None,
-    None,
-    None,
-    None,
-    None,
-    None,
-    None,
-    None,
-    None,
-    None,
-    None,
-    None,
-    None,
-    None,
-    None,
-    None,
-    None,
-    None,
-    None,
-    None,
-    None,
-    None,
-    None,
-    None,
-    None,
-    None,
-    None,
-    None,
-    None,
-    None,
-    None,
-    None,
-    None,
-    None,
-    None,
-    None,
-    None,
-    None,
-    None,
-    None,
-    None,
-    None,
-    None,
-    None,
-    None,
-    None,
-    None,
-    None,
-    None,
-    None,
-    None,
-    None,
-    None,
-    None,
-    None,
-    None,
-    None,
-    None,
-    None,
-    None,
-    None,
-    None,
-    None,
-    None,
-    None,
-    None,
-    None,
-    None,
-    None,
-    None,
-    None,
-    None,
-    None,
-    None,
-    None,
-    None,
-    None,
-    None,
-    None,
-    None,
-    None,
-    None,
-    None,
-    None,
-    None,
-    None,
-    None,
-    None,
-    None,
-    None,
-    None,
-    None,
-    None,
-    None,
-    None,
-    None,
-    None,
-    None,
-    None,
-    None,
-    None,
-    None,
-    None,
-    None,
-    None,
-    None,
-    None,
-    None,
-    None,
-    None,
-    None,
-    None,
-    None,
-    None,
-    None,
-    None,
-    None,
-    None,
-    None,
-    None,
-    None,
-    None,
-    None,
-    None,
-    None,
-    None,
-    None,
-    None,
-    None,
-    None,
-    None,
-    None,
-    None,
 ];

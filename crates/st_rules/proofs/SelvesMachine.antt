@@ -134,19 +134,19 @@ slots_have : (p : Program) (k c : ℕ) (slots : List Value) → AllHave k slots 
 unfolding exception_slots
 slots_have p k c slots g = take_has k (class_at p c).slots _ (append_has k slots _ g (nils_have k _))
 
-exception_grows : (p : Program) (c : ℕ) (slots : List Value) (st : State) → ObjectsHave (size st) st.store.objects → AllHave (size st) slots → Grown st.store (with_exception p c slots st.store)
+pub exception_grows : (p : Program) (c : ℕ) (slots : List Value) (st : State) → ObjectsHave (size st) st.store.objects → AllHave (size st) slots → Grown st.store (with_exception p c slots st.store)
 unfolding with_exception
 exception_grows p c slots st h g = grown_new st.store h c (exception_slots p c slots) [] (slots_have p (size st) c slots g)
 
-arguments_grow : (args : List Value) (st : State) → ObjectsHave (size st) st.store.objects → AllHave (size st) args → Grown st.store (with_arguments args st.store)
+pub arguments_grow : (args : List Value) (st : State) → ObjectsHave (size st) st.store.objects → AllHave (size st) args → Grown st.store (with_arguments args st.store)
 unfolding with_arguments
 arguments_grow args st h i = grown_new st.store h _ args [] i
 
-arguments_there : (args : List Value) (st : State) → ObjectsHave (size st) st.store.objects → Has (length (with_arguments args st.store).objects) (next_object st.store)
+pub arguments_there : (args : List Value) (st : State) → ObjectsHave (size st) st.store.objects → Has (length (with_arguments args st.store).objects) (next_object st.store)
 unfolding with_arguments
 arguments_there args st h = next_new st.store h _ args []
 
-message_grows : (c : ℕ) (array : Value) (s : Store) → ObjectsHave (length s.objects) s.objects → Has (length s.objects) array → Grown s (with_message c array s)
+pub message_grows : (c : ℕ) (array : Value) (s : Store) → ObjectsHave (length s.objects) s.objects → Has (length s.objects) array → Grown s (with_message c array s)
 unfolding with_message
 message_grows c array s h g = grown_new s h _ (Symbol c ∷ array ∷ []) [] (tt, (g, tt))
 

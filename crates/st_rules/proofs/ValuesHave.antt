@@ -179,7 +179,7 @@ set_size (q ∷ os) zero o = refl
 set_size (q ∷ os) (suc n) o = ap suc (set_size os n o)
 
 -- the class of each object, where one is set of the class that was there
-set_class : (os : List HeapObject) (n m : ℕ) (o : HeapObject) → o.class ≡ (get_or os n no_object).class → (get_or (slice_set os n o) m no_object).class ≡ (get_or os m no_object).class
+pub set_class : (os : List HeapObject) (n m : ℕ) (o : HeapObject) → o.class ≡ (get_or os n no_object).class → (get_or (slice_set os n o) m no_object).class ≡ (get_or os m no_object).class
 set_class [] n m o c = refl
 set_class (q ∷ os) zero zero o c = c
 set_class (q ∷ os) zero (suc m) o c = refl

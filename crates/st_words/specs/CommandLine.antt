@@ -1,5 +1,5 @@
 -- The command that words give: what `clap` finds in them where it gives no fault.
-use Rattle.std.specs.Prelude.{◌&&◌, ◌^◌, ℕ, Bool, true, false, List, [], ◌∷◌, Option, Some, None, codes, option_map, if◌then◌else◌, nat_lt}
+use Rattle.std.specs.Prelude.{◌&&◌, ◌^◌, ◌≤◌, ℕ, Bool, true, false, List, [], ◌∷◌, Option, Some, None, codes, option_map, if◌then◌else◌, nat_lt, nat_le}
 use Rattle.std.specs.Str.{bytes_eq}
 use Rattle.std.specs.Str.Parse.{digits_value, without_leading_plus}
 use Rattle.clap.specs.Words.{App, Row, Rule, Text, Kinds, new_app, new_rule, with_rule, first_of, one_of, fault_of, matches_of}
@@ -65,6 +65,10 @@ abbrev pub number_or : ℕ → ℕ → Option Text → ℕ
 number_or bits default None = default
 number_or bits default (Some text) = if is_number bits text then digits_value 10 (without_leading_plus text) else default
 
+-- A number in its bounds, or the default. `clap` gives a fault for any other, so this says again what holds.
+abbrev pub within : (low high default : ℕ) → ℕ → ℕ
+within low high default n = if nat_le low n && nat_le n high then n else default
+
 -- the flag is given
 abbrev pub is_true : Option Text → Bool
 is_true None = false
@@ -75,12 +79,12 @@ abbrev pub options : Task → List Row → Command
 options task rows = record {
   task = task;
   limits = record {
-    steps = number_or 64 10000000 (one_of (codes "steps") rows);
-    depth = number_or 32 10000 (one_of (codes "depth") rows);
-    cells = number_or 32 4194304 (one_of (codes "cells") rows);
+    steps = within 0 1000000000000 10000000 (number_or 64 10000000 (one_of (codes "steps") rows));
+    depth = within 1 1000000 10000 (number_or 32 10000 (one_of (codes "depth") rows));
+    cells = within 0 67108864 4194304 (number_or 32 4194304 (one_of (codes "cells") rows));
   };
   seed = number_or 32 1 (one_of (codes "seed") rows);
-  size = number_or 32 100 (one_of (codes "size") rows);
+  size = within 1 10000 100 (number_or 32 100 (one_of (codes "size") rows));
   stats = is_true (first_of (codes "stats") rows);
 }
 
@@ -96,3 +100,12 @@ without_fault (fault ∷ faults) rows = None
 -- the command that the words give
 abbrev pub command_of : List Text → Option Command
 command_of words = without_fault (fault_of the_app words) (matches_of the_app words)
+
+-- each number is in its bounds
+pub record IsInBounds (c : Command) : Type 0 where
+  pub steps : c.limits.steps ≤ 1000000000000
+  pub some_depth : 1 ≤ c.limits.depth
+  pub depth : c.limits.depth ≤ 1000000
+  pub cells : c.limits.cells ≤ 67108864
+  pub some_size : 1 ≤ c.size
+  pub size : c.size ≤ 10000

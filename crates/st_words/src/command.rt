@@ -1,7 +1,7 @@
 // What the program is asked to do, and the options of it.
-ghost use Rattle.std.specs.Prelude.{◌≡◌, ◌≢◌, IfOk, None, codes, map, option_map, string_bytes};
+ghost use Rattle.std.specs.Prelude.{◌≡◌, ◌≢◌, IfOk, IfSome, None, codes, map, option_map, string_bytes};
 ghost use Rattle.clap.specs.Words.{first_of, found_of, kind_of, one_of, rows_of};
-ghost use Rattle.st_words.specs.CommandLine.{command_of, command_of_rows, is_true, named_task, number_or, options, task_of};
+ghost use Rattle.st_words.specs.CommandLine.{command_of, command_of_rows, is_true, named_task, number_or, options, task_of, within, IsInBounds};
 
 use crate::args::found;
 use clap::error::ErrorKind;
@@ -81,18 +81,46 @@ fn stats(matches: &ArgMatches<'_>) -> bool
     }
 }
 
+// A number in its bounds, or the default.
+fn within(low: u32, high: u32, default: u32, number: u32) -> u32
+    ensures { result ≡ within low high default number }
+{
+    if low <= number && number <= high {
+        number
+    } else {
+        default
+    }
+}
+
+// A number of steps, or the default.
+fn steps_within(number: u64) -> u64
+    ensures { result ≡ within 0 1000000000000 10000000 number }
+{
+    if number <= 1_000_000_000_000 {
+        number
+    } else {
+        10_000_000
+    }
+}
+
 fn options(matches: &ArgMatches<'_>, task: Task) -> Command
-    ensures { result ≡ options task (rows_of (found_of matches.now)) }
+    ensures options { result ≡ options task (rows_of (found_of matches.now)) }
+    ensures bounds { IsInBounds result }
 {
     Command {
         task,
         limits: Limits {
-            steps: steps(matches),
-            depth: number(matches, "depth", 10_000),
-            cells: number(matches, "cells", 4_194_304),
+            steps: steps_within(steps(matches)),
+            depth: within(1, 1_000_000, 10_000, number(matches, "depth", 10_000)),
+            cells: within(
+                0,
+                67_108_864,
+                4_194_304,
+                number(matches, "cells", 4_194_304),
+            ),
         },
         seed: number(matches, "seed", 1),
-        size: number(matches, "size", 100),
+        size: within(1, 10_000, 100, number(matches, "size", 100)),
         stats: stats(matches),
     }
 }
@@ -107,7 +135,8 @@ fn named_task(matches: &ArgMatches<'_>) -> Option<Task>
 }
 
 fn command_in(matches: &ArgMatches<'_>) -> Option<Command>
-    ensures { result ≡ command_of_rows (rows_of (found_of matches.now)) }
+    ensures command { result ≡ command_of_rows (rows_of (found_of matches.now)) }
+    ensures bounds { IfSome result IsInBounds }
 {
     match named_task(matches) {
         Some(task) => Some(options(matches, task)),
@@ -130,7 +159,8 @@ fn refused(error: Error) -> Result<Option<Command>, OutOfMemory>
 /// without. None where they are no command: `clap` gives a fault for them, or the positional is no
 /// task.
 pub fn command_of(alloc: Global, words: &[String]) -> Result<Option<Command>, OutOfMemory>
-    ensures { IfOk result (λ c. c ≡ command_of (map string_bytes words.now)) }
+    ensures command { IfOk result (λ c. c ≡ command_of (map string_bytes words.now)) }
+    ensures bounds { IfOk result (λ c. IfSome c IsInBounds) }
 {
     match found(alloc, words) {
         Ok(matches) => Ok(command_in(&matches)),

@@ -1,0 +1,13 @@
+pub mod SoundObjects
+pub mod SoundRows
+pub mod Later
+pub mod SoundVisits
+pub mod Meets
+pub mod TableRows
+pub mod SoundSends
+pub mod SoundMachine
+pub mod SoundRun
+pub mod WrittenTrees
+pub mod WrittenMade
+pub mod WrittenNames
+pub mod WrittenUnits

@@ -1,0 +1,11 @@
+use Rattle.std.proofs.Common.{◌≡◌, drop}
+use Rattle.object_heap.specs.Store.{object_at}
+use Rattle.st_transcript.proofs.Gaining.{Wrote}
+use Rattle.st_transcript.proofs.bytes.put_bytes_of.Given as goal
+
+-- what stands before is written, and no call failed
+abbrev pub invariant-loop-place : goal.invariant-loop-place
+invariant-loop-place g l = record {
+  wrote : Wrote (object_at l.object (g.H.Heap.meaning l.heap).store).bytes (drop l.place (object_at l.object (g.H.Heap.meaning l.heap).store).bytes) (g.K.Sink.written l.fn.out) (g.K.Sink.written l.out);
+  faults : g.K.Sink.faults l.out ≡ g.K.Sink.faults l.fn.out;
+}
