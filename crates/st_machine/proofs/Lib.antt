@@ -19,5 +19,5 @@ pub mod FollowsLoops
 pub mod FollowsPerforming
 pub mod FollowsSending
 pub mod Follows
-pub mod Telling
+pub mod Gone
 pub mod Replied

@@ -1,5 +1,5 @@
 -- Loops as activations keep them, and what a step of a loop makes of the machine. Source: ANSI 5.4.3, 5.7.
-use Rattle.std.specs.Prelude.{ℕ, Bool, true, false, ◌&&◌, List, [], ◌∷◌, length, nat_le}
+use Rattle.std.specs.Prelude.{ℕ, Bool, true, false, ◌&&◌, List, [], ◌∷◌, length, nat_le, if◌then◌else◌}
 use Rattle.object_heap.specs.declared.value.Value.{Value}
 use Rattle.object_heap.specs.declared.trouble.Trouble.TheVariants.{NotFound}
 use Rattle.object_heap.specs.Store.{Store}

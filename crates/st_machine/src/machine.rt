@@ -9,7 +9,7 @@ ghost use Rattle.st_machine.specs.Opening.{stood, stood_number, stepped, has_ste
 use crate::loaded::Loaded;
 use crate::operands::Passed;
 use crate::room::room_of;
-use crate::work::{Mode, Telling, Told, telling};
+use crate::work::{Mode, Telling, Told, events_alone};
 use object_heap::{Heap, Value};
 use st_base::OutOfMemory;
 use st_contexts::{Activation, Contexts, Env, Outcome};
@@ -89,15 +89,15 @@ impl<H: Heap> Machine<H> {
         match self.mode {
             Mode::Run => {
                 self.instruct();
-                telling(Told::Nothing)
+                events_alone(Told::Nothing)
             }
-            Mode::Settle(outcome) => telling(self.settle(outcome)),
+            Mode::Settle(outcome) => events_alone(self.settle(outcome)),
             Mode::Begin(work) => self.begin(work),
             Mode::Next => {
                 self.open_next();
-                telling(Told::Nothing)
+                events_alone(Told::Nothing)
             }
-            Mode::Ended(_) => telling(Told::Nothing),
+            Mode::Ended(_) => events_alone(Told::Nothing),
         }
     }
 

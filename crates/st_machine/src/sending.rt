@@ -2,13 +2,14 @@
 ghost use Rattle.std.specs.Prelude.{◌≡◌};
 ghost use Rattle.st_messages.specs.declared.reply.Written.{Written};
 ghost use Rattle.st_messages.specs.Replies.{written_text};
+ghost use Rattle.st_machine.specs.declared.work.Ending.{Ending};
 ghost use Rattle.st_machine.specs.Opening.{stopped};
 ghost use Rattle.st_machine.specs.Plans.{program_in};
 ghost use Rattle.st_machine.specs.Settling.{ended};
 ghost use Rattle.st_machine.specs.Sending.{value_in, sent, sent_told, sent_written, super_sent, super_sent_told, super_sent_written, value_sent};
 
 use crate::machine::Machine;
-use crate::work::{Telling, Told, telling};
+use crate::work::{Telling, Told, events_alone};
 use object_heap::{Heap, Value};
 use st_contexts::{Env, Limit, Outcome};
 use st_messages::{send_message, super_message};
@@ -20,7 +21,7 @@ impl<H: Heap> Machine<H> {
         ensures told { result ≡ record { events = Told.Nothing; written = Written.Nothing } }
     {
         self.settle_with(Outcome::Stop(Limit::Steps));
-        telling(Told::Nothing)
+        events_alone(Told::Nothing)
     }
 
     // The store isn't sound for a message.
@@ -29,7 +30,7 @@ impl<H: Heap> Machine<H> {
         ensures told { result ≡ record { events = Told.Nothing; written = Written.Nothing } }
     {
         self.strand();
-        telling(Told::Nothing)
+        events_alone(Told::Nothing)
     }
 
     /// Sends a selector with the values that are passed on, and answers what that tells.

@@ -128,7 +128,7 @@ pub struct Telling {
 }
 
 /// Nothing goes to the Transcript.
-pub(crate) fn telling(events: Told) -> Telling
+pub(crate) fn events_alone(events: Told) -> Telling
     ensures { result ≡ record { events = events; written = Written.Nothing } }
 {
     Telling {

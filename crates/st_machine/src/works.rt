@@ -5,7 +5,7 @@ ghost use Rattle.st_machine.specs.Plans.{program_in};
 ghost use Rattle.st_machine.specs.Works.{begun, begun_told, begun_written};
 
 use crate::machine::Machine;
-use crate::work::{Telling, Told, Work, telling};
+use crate::work::{Telling, Told, Work, events_alone};
 use object_heap::{Closure, Heap, Value};
 use st_contexts::{Env, Turn, Wait};
 
@@ -49,14 +49,14 @@ impl<H: Heap> Machine<H> {
         ensures written { written_text (program_in self.new.plan) self.new.memory.store result.written ≡ begun_written work self.old }
     {
         match work {
-            Work::Apply { receiver, env } => telling(self.begin_apply(receiver, env)),
+            Work::Apply { receiver, env } => events_alone(self.begin_apply(receiver, env)),
             Work::SendValue { receiver, env } => self.send_value(receiver, env),
-            Work::Activate { closure, env } => telling(self.begin_activate(closure, env)),
+            Work::Activate { closure, env } => events_alone(self.begin_activate(closure, env)),
             Work::Enter {
                 code,
                 receiver,
                 env,
-            } => telling(self.begin_enter(code, receiver, env)),
+            } => events_alone(self.begin_enter(code, receiver, env)),
             Work::SendTo {
                 selector,
                 receiver,
@@ -68,27 +68,27 @@ impl<H: Heap> Machine<H> {
                 receiver,
                 env,
             } => self.send_super_to(class, selector, receiver, env),
-            Work::Fail { trouble, env } => telling(self.fail(trouble, env)),
-            Work::Raise { exception, env } => telling(self.raise(exception, env)),
-            Work::RaiseNew { class, env } => telling(self.raise_new(class, env)),
-            Work::Search { search, rest } => telling(self.search_in(search, rest)),
+            Work::Fail { trouble, env } => events_alone(self.fail(trouble, env)),
+            Work::Raise { exception, env } => events_alone(self.raise(exception, env)),
+            Work::RaiseNew { class, env } => events_alone(self.raise_new(class, env)),
+            Work::Search { search, rest } => events_alone(self.search_in(search, rest)),
             Work::TurnBy {
                 search,
                 entry,
                 outside,
-            } => telling(self.turn_by(search, entry, outside)),
+            } => events_alone(self.turn_by(search, entry, outside)),
             Work::Ask {
                 wait,
                 number,
                 turn,
                 env,
-            } => telling(self.begin_ask(wait, number, turn, env)),
+            } => events_alone(self.begin_ask(wait, number, turn, env)),
             Work::Visit {
                 number: _,
                 state,
                 value,
                 env,
-            } => telling(self.visit(state, value, env)),
+            } => events_alone(self.visit(state, value, env)),
         }
     }
 }

@@ -1,4 +1,4 @@
-use Rattle.st_machine.proofs.Telling.{on_progress, on_fault, unwatched_part, unwatched_cause}
+use Rattle.st_machine.proofs.Gone.{on_progress, on_fault, unwatched_part, unwatched_cause}
 use Rattle.st_machine.proofs.machine.Machine.go.Goals as goal
 
 pub returns-clause-written : goal.returns-clause-written

@@ -2,7 +2,7 @@ use Rattle.std.proofs.Common.{◌≡◌, false, true, refl, sym, ◌∙◌, ap, 
 use Rattle.std.proofs.lemmas.Result.{err_from_is_err_and}
 use Rattle.st_machine.specs.Seen.{Seen}
 use Rattle.st_machine.specs.Running.{goes_on, left_after}
-use Rattle.st_machine.proofs.Telling.{gone_stops, gone_ends, goes_further, runs_first, step_runs, step_breaks, stops_here, ends_here}
+use Rattle.st_machine.proofs.Gone.{gone_stops, gone_ends, goes_further, runs_first, step_runs, step_breaks, stops_here, ends_here}
 use Rattle.st_machine.proofs.machine.Machine.go_for.Goals as goal
 
 pub loop-fuel-init : goal.loop-fuel-init

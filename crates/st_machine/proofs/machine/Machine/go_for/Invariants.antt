@@ -1,6 +1,6 @@
 use Rattle.std.proofs.Common.{◌≡◌}
 use Rattle.st_machine.specs.Running.{gone, gone_told, gone_written, sink_seen, watch_seen}
-use Rattle.st_machine.proofs.Telling.{Running}
+use Rattle.st_machine.proofs.Gone.{Running}
 use Rattle.st_machine.proofs.machine.Machine.go_for.Given as goal
 
 -- what is left to do leads to where all leads; what came so far is written and told, and no call failed
