@@ -102,8 +102,8 @@ module _ (plan : Plan) (next depth width : ℕ) (vars : List Value) (passed : Pa
     unfolding used with_arguments
     misses_by selector r args mem true e one c c' =
         let made : exception_made array_class (length args) args mem ≡ with_object array_class args mem = object_memory array_class args mem c in
-        let then = with_object array_class args mem in
-        record { count = 0; counted = refl; comes = rw (made, c, c', append-nil tr, append-nil ev) (message_by selector r (length mem.store.objects) then (nat_le (then.used + 3) then.limit) one refl (cells_same then 3 (nat_le (then.used + 3) then.limit) e refl)) }
+        let kept = with_object array_class args mem in
+        record { count = 0; counted = refl; comes = rw (made, c, c', append-nil tr, append-nil ev) (message_by selector r (length mem.store.objects) kept (nat_le (kept.used + 3) kept.limit) one refl (cells_same kept 3 (nat_le (kept.used + 3) kept.limit) e refl)) }
     misses_by selector r args mem false e one c c' =
         let made : exception_made array_class (length args) args mem ≡ mem = no_object_memory array_class args mem c in
         record { count = 0; counted = refl; comes = rw (made, c, c', append-nil tr, append-nil ev) refl }
