@@ -8,9 +8,9 @@ pub mod Controls
 pub mod Loops
 pub mod Performing
 pub mod Steps
-pub mod Visits
 pub mod Idle
 pub mod Moments
+pub mod Gone
 pub mod WholeRun
 pub mod Stopping
 pub mod StepLaw

@@ -71,7 +71,7 @@ idle mode.Next = 1
 idle _ = 0
 
 -- an ended machine stays as it is
-over_stays : (n : ℕ) (m : Mode) (s : Seen) → s.mode ≡ m → IsOver m → after n s ≡ s
+pub over_stays : (n : ℕ) (m : Mode) (s : Seen) → s.mode ≡ m → IsOver m → after n s ≡ s
 over_stays zero m s is over = refl
 over_stays (suc n) (mode.Ended e) s is over =
     let same : advanced s ≡ s = rw is refl in
@@ -203,7 +203,7 @@ module _ (plan : Plan) where
   goes_on : (n i : ℕ) (s : Seen) (tr : Text) (ev : List Event) → i ≤ 2 ^ 64 - 1 → StepsOn s tr ev → Follows n (begun_by s.mode i) (advanced s) (tr ++ advance_written s) (ev ++ events_of (advance_told s)) → Follows (suc n) i s tr ev
   goes_on n i s tr ev l c f =
       let counts : instructions B P c.count (top_of tr ev s) + instructions B P f.count (top_iter B P c.count (top_of tr ev s)) ≡ runs_in s.mode + runs_by n (advanced s) =
-        ap (λ k. k + instructions B P f.count (top_iter B P c.count (top_of tr ev s))) c.counted ∙ ap (λ t. runs_in s.mode + instructions B P f.count t) c.leads ∙ ap (λ k. runs_in s.mode + k) f.counted in
+      ap (λ k. k + instructions B P f.count (top_iter B P c.count (top_of tr ev s))) c.counted ∙ ap (λ t. runs_in s.mode + instructions B P f.count t) c.leads ∙ ap (λ k. runs_in s.mode + k) f.counted in
       record {
         count = c.count + f.count;
         leads =

@@ -19,7 +19,7 @@ use Rattle.st_machine.specs.Plans.{program_in}
 use Rattle.st_machine.specs.Steps.{advanced, advance_told, advance_written}
 use Rattle.st_machine.specs.Loops.{loop_goes_on}
 use Rattle.st_machine.specs.Sending.{send_of, super_send_of, value_in, send_is_sound, super_send_is_sound}
-use Rattle.st_machine.specs.Sound.{is_fit, IsSent, IsGivenSoundly}
+use Rattle.st_machine.specs.Sound.{is_fit, IsSent, IsKept}
 use Rattle.st_machine.specs.Meaning.{events_of, top_of}
 use Rattle.st_machine.specs.Followed.{Moves, IsSound, Ready, Leads, FollowsTheFlat}
 use Rattle.st_machine_laws.specs.Holding.{Holds}
@@ -108,7 +108,7 @@ module _ (plan : Plan) (law : FollowsTheFlat) where
     -- ---- a loop
 
     gives_by : (n : ℕ) (l : LoopState) (v : Value) (env : Env) (s : Seen) → Holds (at plan i) (begins (work.Visit n l v env) s)
-        → IsGivenSoundly (state_of l) v (begins (work.Visit n l v env) s) ⊎ Stops (advanced (begins (work.Visit n l v env) s)) [] → Goes (begins (work.Visit n l v env) s)
+        → IsKept (state_of l) (begins (work.Visit n l v env) s) ⊎ Stops (advanced (begins (work.Visit n l v env) s)) [] → Goes (begins (work.Visit n l v env) s)
     gives_by n l v env s h (inl sound) = soundly (begins (work.Visit n l v env) s) h sound
     gives_by n l v env s h (inr x) = inr (strands_so (begins (work.Visit n l v env) s) x)
 
@@ -120,7 +120,7 @@ module _ (plan : Plan) (law : FollowsTheFlat) where
     works (work.SuperTo class selector receiver env) s h = super_by class selector receiver env s (nat_lt s.steps (program_in s.plan).step_limit) refl h
     works (work.Visit n l v env) s h =
         let t : Seen = begins (work.Visit n l v env) s in
-        gives_by n l v env s h (gives_or_stops (loop_goes_on t.memory.store (state_of l)) l v env t refl h.firm)
+        gives_by n l v env s h (gives_or_stops (loop_goes_on t.memory.store (state_of l)) l v env t refl)
     works (work.Apply receiver env) s h = soundly (begins (work.Apply receiver env) s) h tt
     works (work.Activate c env) s h = soundly (begins (work.Activate c env) s) h tt
     works (work.Enter code receiver env) s h = soundly (begins (work.Enter code receiver env) s) h tt

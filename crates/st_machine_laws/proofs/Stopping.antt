@@ -1,48 +1,22 @@
 -- A send that isn't done at once ends the machine, and so does a loop that finds its receiver changed.
 use Rattle.std.proofs.Common.{◌≡◌, ℕ, ◌+◌, ◌-◌, ◌^◌, ◌≤◌, ◌<◌, ◌⊎◌, inl, inr, List, [], ◌∷◌, length, Bool, true, false, ◌&&◌, true≢false, nat_le, nat_lt, if◌then◌else◌, refl, ap, sym, ◌∙◌, arith}
 use Rattle.std.proofs.lemmas.Bool.Decides.{nat_tests}
-use Rattle.std.proofs.lemmas.Bool.{and_parts}
 use Rattle.object_heap.specs.declared.value.Value.{Value}
 use Rattle.st_code.specs.Texts.{Text}
-use Rattle.st_code.specs.Compiled.{Compiled}
 use Rattle.st_collections.specs.Actions.{Action, Gives, Changes, Makes, Fails, PassesIntegers, DividesByZero, Writes, Begins, Activates, Sends, Misses, Enters, Guards, Ensures, Curtails, Iterates, Raises, RaisesNew, Controls, Terminates, LoopState as State}
-use Rattle.st_collections.specs.Loops.{first_visit, next_visit}
 use Rattle.st_contexts.specs.declared.activation.Env.{Env}
-use Rattle.st_loops.specs.declared.state.Arguments.{Arguments}
 use Rattle.st_loops.specs.declared.state.LoopState.{LoopState}
-use Rattle.st_loops.specs.States.{values_of, state_of}
-use Rattle.st_loops.specs.Steps.{told_of}
-use Rattle.st_loops.specs.Tests.{may_begin}
-use Rattle.st_rules.specs.Flat.{greatest_width}
+use Rattle.st_loops.specs.States.{state_of}
 use Rattle.st_machine.specs.declared.work.Ending.TheVariants as ending
 use Rattle.st_machine.specs.declared.work.Mode.TheVariants as mode
 use Rattle.st_machine.specs.Seen.{Seen}
 use Rattle.st_machine.specs.Plans.{program_in}
-use Rattle.st_machine.specs.Loops.{loop_begins, loop_goes_on, given_by}
+use Rattle.st_machine.specs.Loops.{loop_goes_on, given_by}
 use Rattle.st_machine.specs.Performing.{performed, performed_written}
 use Rattle.st_machine.specs.Sending.{acted, acted_written}
-use Rattle.st_machine.specs.Sound.{step_fits, is_fit, IsSent, IsGivenSoundly}
+use Rattle.st_machine.specs.Sound.{is_fit, IsSent, IsKept}
 use Rattle.st_machine_laws.specs.Holding.{Course}
 use Rattle.st_machine_laws.proofs.Blocks.{F, firm_counts}
-use Rattle.st_machine_laws.proofs.Visits.{at_most, next_asks, first_asks, visit_fits}
-
--- ---- room for what is passed on
-
-wide_by : (b : Bool) (n m : ℕ) → nat_lt n m ≡ b → 8 ≤ n → 8 ≤ (if b then m else n)
-wide_by true n m e l = let more : n < m = grind (arith, nat_tests) in omega (arith, more, l)
-wide_by false n m e l = l
-
-wide : (codes : List Compiled) → 8 ≤ greatest_width codes
-wide [] = omega arith
-wide (c ∷ codes) = wide_by (nat_lt (greatest_width codes) c.width) (greatest_width codes) c.width refl (wide codes)
-
-roomy : {course : Course} → (s : Seen) → F course s → 2 ≤ s.passed.room
-roomy {course = course} s f =
-    let a : 8 ≤ greatest_width course.plan.codes = wide course.plan.codes in
-    omega (arith, a, f.wide, f.passes)
-
-within_three : (n : ℕ) → nat_le n 3 ≡ true → n ≤ 3
-within_three n e = grind (arith, nat_tests)
 
 clash : {A : Type 0} → true ≡ false → A
 clash e = absurd (true≢false e)
@@ -58,15 +32,6 @@ module _ {course : Course} (s : Seen) (f : F course s) (env : Env) where
   abbrev Unfit : Action → Type 0
   Unfit a = is_fit a s ≡ false → Stops (performed a env s) (performed_written a s)
 
-  loop_unfit : (b : Bool) (l : State) → loop_begins s.memory.store l ≡ b → Unfit (Iterates l)
-  loop_unfit false l is e = record { mode = rw is refl; written = refl }
-  loop_unfit true l is e =
-      let few : length l.arguments ≤ 3 = within_three (length l.arguments) (and_parts (nat_le (length l.arguments) 3) (may_begin s.memory.store l.message l.receiver) is).0 in
-      let fits : step_fits (told_of (first_visit (program_in s.plan) s.memory.store l) s.memory) s.passed ≡ true =
-        visit_fits l.arguments few s.passed (roomy s f) (first_visit (program_in s.plan) s.memory.store l) s.memory (first_asks l.arguments (program_in s.plan) s.memory.store l refl) in
-      let all : is_fit (Iterates l) s ≡ true = rw (is, fits) refl in
-      clash (sym all ∙ e)
-
   unfit : (a : Action) → Unfit a
   unfit (Gives v) e = clash e
   unfit (Changes t v) e = clash e
@@ -75,18 +40,16 @@ module _ {course : Course} (s : Seen) (f : F course s) (env : Env) where
   unfit PassesIntegers e = clash e
   unfit (Raises t x) e = clash e
   unfit (Writes text v) e = clash e
-  unfit (DividesByZero dividend) e = record { mode = rw e refl; written = refl }
+  unfit (DividesByZero dividend) e = clash e
   unfit (Begins v args) e = record { mode = rw e refl; written = refl }
   unfit (Activates c args) e = record { mode = rw e refl; written = refl }
   unfit (Sends selector r args) e = record { mode = rw e refl; written = refl }
-  unfit (Misses selector r args) e =
-      let some : 1 ≤ s.passed.room = omega (arith, roomy s f) in
-      clash (sym (at_most 1 s.passed.room some) ∙ e)
+  unfit (Misses selector r args) e = clash e
   unfit (Enters code r args) e = record { mode = rw e refl; written = refl }
   unfit (Guards receiver selector handler) e = clash e
   unfit (Ensures receiver block) e = clash e
   unfit (Curtails receiver block) e = clash e
-  unfit (Iterates l) e = loop_unfit (loop_begins s.memory.store l) l refl e
+  unfit (Iterates l) e = record { mode = rw e refl; written = refl }
   unfit (RaisesNew class slots) e = record { mode = rw e refl; written = refl }
   unfit (Controls c x v) e = clash e
   unfit (Terminates v) e = clash e
@@ -136,17 +99,6 @@ sends_or_stops true false a env s is f e = inr (no_room a env s f e is)
 
 -- ---- a loop that gets a value
 
-short : (arguments : Arguments) → length (values_of arguments) ≤ 3
-short Arguments.None = omega arith
-short (Arguments.One u) = omega arith
-short (Arguments.Two u v) = omega arith
-short (Arguments.Three u v w) = omega arith
-
-pub gives_or_stops : {course : Course} → (b : Bool) (l : LoopState) (v : Value) (env : Env) (s : Seen) → loop_goes_on s.memory.store (state_of l) ≡ b → F course s
-    → IsGivenSoundly (state_of l) v s ⊎ Stops (given_by b (state_of l) v env s) []
-gives_or_stops true l v env s is f =
-    inl (record {
-      kept = is;
-      fit = visit_fits (values_of l.arguments) (short l.arguments) s.passed (roomy s f) (next_visit (program_in s.plan) s.memory.store (state_of l) v) s.memory (next_asks (values_of l.arguments) (program_in s.plan) s.memory.store (state_of l) v refl);
-    })
-gives_or_stops false l v env s is f = inr (record { mode = refl; written = refl })
+pub gives_or_stops : (b : Bool) (l : LoopState) (v : Value) (env : Env) (s : Seen) → loop_goes_on s.memory.store (state_of l) ≡ b → IsKept (state_of l) s ⊎ Stops (given_by b (state_of l) v env s) []
+gives_or_stops true l v env s is = inl (record { kept = is })
+gives_or_stops false l v env s is = inr (record { mode = refl; written = refl })

@@ -41,7 +41,8 @@ use Rattle.st_machine_laws.specs.Moments.{after, told_by, written_by, runs_by, s
 use Rattle.st_machine_laws.specs.WholeRun.{Opened, EndsAsTheRules, IsRun}
 use Rattle.st_machine_laws.proofs.Idle.{NotNext, next_goes_on}
 use Rattle.st_machine_laws.proofs.Steps.{first}
-use Rattle.st_machine_laws.proofs.Moments.{P, B, at, Reached, StepLaw, Follows, Lost, follows, ended_stays, steps_add, after_last, IsOver}
+use Rattle.st_machine_laws.proofs.Moments.{P, B, at, Reached, StepLaw, Follows, Lost, follows, ended_stays, steps_add, after_last, over_stays, IsOver}
+use Rattle.st_machine_laws.proofs.Gone.{after_after}
 
 -- ---- a mode that is over
 
@@ -103,6 +104,32 @@ written_top (mode.Begin w) s st = refl
 written_top mode.Next s st = opened_text (flat_of s) (program_in s.plan) (behind (program_in s.plan) s.initializers) st
 written_top (mode.Ended e) s st = refl
 
+-- ---- the flat machine's run
+
+module _ (plan : Plan) where
+  compilable : Compilable (P plan)
+  compilable = programs_are_compilable (names_in (named_units plan.units)) (named_units plan.units) (limits_of plan.limits)
+
+  same_run : IsTheRun (P plan)
+  same_run = flat_run_is_the_rules_run (names_in (named_units plan.units)) (named_units plan.units) (limits_of plan.limits)
+
+  -- it ends
+  pub record FlatRun : Type 0 where
+    pub ending : rules.Ending
+    pub state : State
+    pub count : ℕ
+    pub runs : MachineRuns (flattened.flat_of (P plan)) (P plan) ending state count
+
+  flat_run : FlatRun
+  flat_run =
+      let (e, st, r) = rules_end (P plan) in
+      let (st', count, m, alike) = same_run.of_the_rules e st r in
+      record { ending = e; state = st'; count = count; runs = m }
+
+  -- a machine that makes so many small steps has ended
+  pub bound_of : ℕ
+  bound_of = suc (flat_run.runs.steps + flat_run.runs.steps + 2)
+
 module _ (plan : Plan) (memory : Memory) (o : Opened plan memory) (law : StepLaw plan) where
   abbrev s0 : Seen
   s0 = first_seen plan memory
@@ -128,13 +155,7 @@ module _ (plan : Plan) (memory : Memory) (o : Opened plan memory) (law : StepLaw
 
   -- ---- the end
 
-  compilable : Compilable (P plan)
-  compilable = programs_are_compilable (names_in (named_units plan.units)) (named_units plan.units) (limits_of plan.limits)
-
-  same_run : IsTheRun (P plan)
-  same_run = flat_run_is_the_rules_run (names_in (named_units plan.units)) (named_units plan.units) (limits_of plan.limits)
-
-  -- the flat machine ends
+  -- the flat machine of the plan ends
   pub record FlatEnds : Type 0 where
     pub steps : ℕ
     pub ending : rules.Ending
@@ -143,9 +164,8 @@ module _ (plan : Plan) (memory : Memory) (o : Opened plan memory) (law : StepLaw
 
   flat_ends : FlatEnds
   flat_ends =
-      let (e, st, r) = rules_end (P plan) in
-      let (st', count, m, alike) = same_run.of_the_rules e st r in
-      record { steps = m.steps; ending = e; state = st'; ends = ap (λ b. top_iter b (P plan) m.steps (opened_run b (P plan))) (sym same_bodies) ∙ m.leads }
+      let r : FlatRun plan = flat_run plan in
+      record { steps = r.runs.steps; ending = r.ending; state = r.state; ends = ap (λ b. top_iter b (P plan) r.runs.steps (opened_run b (P plan))) (sym same_bodies) ∙ r.runs.leads }
 
   -- where the flat machine has ended, a machine that hasn't is at the next initializer
   later : (n : ℕ) (f : FlatEnds) (c : Follows plan n 0 s0 [] []) → f.steps ≤ c.count → top_of (written_by n s0) (told_by n s0) (after n s0) ≡ Ended f.ending f.state
@@ -158,12 +178,12 @@ module _ (plan : Plan) (memory : Memory) (o : Opened plan memory) (law : StepLaw
   ends_at n c over =
       let x : Over (after n s0).mode = ending_in (after n s0).mode over in
       let leads : top_iter (B plan) (P plan) c.count (opened_run (B plan) (P plan)) ≡ Ended (ending_of x.ending) (state_after n s0) =
-        ap (λ t. top_iter (B plan) (P plan) c.count t) (sym top_first) ∙ c.leads ∙ ap (λ m. top_by m (after n s0) (state_after n s0)) x.is in
+      ap (λ t. top_iter (B plan) (P plan) c.count t) (sym top_first) ∙ c.leads ∙ ap (λ m. top_by m (after n s0) (state_after n s0)) x.is in
       let counted : instructions (B plan) (P plan) c.count (opened_run (B plan) (P plan)) ≡ runs_by n s0 = ap (λ t. instructions (B plan) (P plan) c.count t) (sym top_first) ∙ c.counted in
       let runs : MachineRuns (flattened.flat_of (P plan)) (P plan) (ending_of x.ending) (state_after n s0) (runs_by n s0) =
-        subst (λ b. MachineRuns b (P plan) (ending_of x.ending) (state_after n s0) (runs_by n s0)) (sym same_bodies) (record { steps = c.count; leads = leads; counted = counted }) in
+      subst (λ b. MachineRuns b (P plan) (ending_of x.ending) (state_after n s0) (runs_by n s0)) (sym same_bodies) (record { steps = c.count; leads = leads; counted = counted }) in
       let all : 0 + runs_by n s0 ≡ runs_by n s0 = omega arith in
-      let (st, r, alike) = same_run.of_the_machine (ending_of x.ending) (state_after n s0) (runs_by n s0) runs in
+      let (st, r, alike) = (same_run plan).of_the_machine (ending_of x.ending) (state_after n s0) (runs_by n s0) runs in
       record {
         steps = n;
         ending = x.ending;
@@ -182,43 +202,66 @@ module _ (plan : Plan) (memory : Memory) (o : Opened plan memory) (law : StepLaw
       by (inl h) = absurd (not (over_top (after n s0).mode (after n s0) (state_after n s0) f.ending f.state h top))
       by (inr is) = is
 
-  ends_behind : (n : ℕ) (f : FlatEnds) → f.steps + f.steps + 2 ≤ n → (after n s0).mode ≡ mode.Next → (c : Follows plan (suc n) 0 s0 [] []) → IsOver (after (suc n) s0).mode ⊎ (IsOver (after (suc n) s0).mode → ⊥) → IsRun plan s0
-  ends_behind n f l is c (inl over) = ends_at (suc n) c over
+  -- a run that ends after so many steps at most
+  pub record Within (n : ℕ) : Type 0 where
+    pub run : IsRun plan s0
+    pub within : run.steps ≤ n
+
+  ended_within : (n m : ℕ) (c : Follows plan n 0 s0 [] []) → n ≤ m → IsOver (after n s0).mode → Within m
+  unfolding ends_at
+  ended_within n m c l over = record { run = ends_at n c over; within = l }
+
+  lost_within : (n m : ℕ) → n ≤ m → Lost plan n 0 s0 [] [] → Within m
+  unfolding lost_at
+  lost_within n m l x = record { run = lost_at n x; within = l }
+
+  ends_behind : (n : ℕ) (f : FlatEnds) → f.steps + f.steps + 2 ≤ n → (after n s0).mode ≡ mode.Next → (c : Follows plan (suc n) 0 s0 [] []) → IsOver (after (suc n) s0).mode ⊎ (IsOver (after (suc n) s0).mode → ⊥) → Within (suc n)
+  ends_behind n f l is c (inl over) = ended_within (suc n) (suc n) c (omega arith) over
   ends_behind n f l is c (inr not) =
       let more : suc n ≤ c.count + c.count + 1 = c.moving not in
       let enough : f.steps ≤ c.count = omega (arith, l, more) in
       let goes : NotNext (after (suc n) s0).mode = rw (after_last n s0) (next_advanced (after n s0) is) in
       absurd (not (over_top (after (suc n) s0).mode (after (suc n) s0) (state_after (suc n) s0) f.ending f.state goes (later (suc n) f c enough)))
 
-  behind_by : (n : ℕ) (f : FlatEnds) → f.steps + f.steps + 2 ≤ n → (after n s0).mode ≡ mode.Next → Follows plan (suc n) 0 s0 [] [] ⊎ Lost plan (suc n) 0 s0 [] [] → IsRun plan s0
+  behind_by : (n : ℕ) (f : FlatEnds) → f.steps + f.steps + 2 ≤ n → (after n s0).mode ≡ mode.Next → Follows plan (suc n) 0 s0 [] [] ⊎ Lost plan (suc n) 0 s0 [] [] → Within (suc n)
   behind_by n f l is (inl c) = ends_behind n f l is c (over_or (after (suc n) s0).mode)
-  behind_by n f l is (inr x) = lost_at (suc n) x
+  behind_by n f l is (inr x) = lost_within (suc n) (suc n) (omega arith) x
 
-  ends_by : (n : ℕ) (f : FlatEnds) → f.steps + f.steps + 2 ≤ n → (c : Follows plan n 0 s0 [] []) → IsOver (after n s0).mode ⊎ (IsOver (after n s0).mode → ⊥) → IsRun plan s0
-  ends_by n f l c (inl over) = ends_at n c over
+  ends_by : (n : ℕ) (f : FlatEnds) → f.steps + f.steps + 2 ≤ n → (c : Follows plan n 0 s0 [] []) → IsOver (after n s0).mode ⊎ (IsOver (after n s0).mode → ⊥) → Within (suc n)
+  ends_by n f l c (inl over) = ended_within n (suc n) c (omega arith) over
   ends_by n f l c (inr not) =
       let more : n ≤ c.count + c.count + 1 = c.moving not in
       let enough : f.steps ≤ c.count = omega (arith, l, more) in
       behind_by n f l (one_more n f not (later n f c enough)) (at_moment (suc n))
 
-  run_by : (n : ℕ) (f : FlatEnds) → f.steps + f.steps + 2 ≤ n → Follows plan n 0 s0 [] [] ⊎ Lost plan n 0 s0 [] [] → IsRun plan s0
+  run_by : (n : ℕ) (f : FlatEnds) → f.steps + f.steps + 2 ≤ n → Follows plan n 0 s0 [] [] ⊎ Lost plan n 0 s0 [] [] → Within (suc n)
   run_by n f l (inl c) = ends_by n f l c (over_or (after n s0).mode)
-  run_by n f l (inr x) = lost_at n x
+  run_by n f l (inr x) = lost_within n (suc n) (omega arith) x
+
+  within : Within (bound_of plan)
+  unfolding bound_of flat_ends
+  within = run_by (flat_ends.steps + flat_ends.steps + 2) flat_ends (omega arith) (at_moment (flat_ends.steps + flat_ends.steps + 2))
 
   pub is_run : IsRun plan s0
-  is_run =
-      let f : FlatEnds = flat_ends in
-      run_by (f.steps + f.steps + 2) f (omega arith) (at_moment (f.steps + f.steps + 2))
+  is_run = within.run
+
+  -- the end is within the bound
+  pub over_within : IsOver (after (bound_of plan) s0).mode
+  over_within =
+      let rest : within.run.steps + (bound_of plan - within.run.steps) ≡ bound_of plan = omega (arith, within.within) in
+      let over : IsOver (after within.run.steps s0).mode = subst IsOver (sym within.run.ended) tt in
+      subst (λ n. IsOver (after n s0).mode) rest (subst (λ (s : Seen). IsOver s.mode) (after_after within.run.steps (bound_of plan - within.run.steps) s0)
+      (subst (λ (s : Seen). IsOver s.mode) (sym (over_stays (bound_of plan - within.run.steps) (after within.run.steps s0).mode (after within.run.steps s0) refl over)) over))
 
   -- ---- what was written
 
   so_far_by : (e : rules.Ending) (st : State) → Runs (P plan) e st → (n : ℕ) → Follows plan n 0 s0 [] [] → Begins (written_by n s0) st.transcript
   so_far_by e st r n c =
       let top : top_iter (flattened.flat_of (P plan)) (P plan) c.count (opened_run (flattened.flat_of (P plan)) (P plan)) ≡ top_of (written_by n s0) (told_by n s0) (after n s0) =
-        ap (λ b. top_iter b (P plan) c.count (opened_run b (P plan))) same_bodies ∙ ap (λ t. top_iter (B plan) (P plan) c.count t) (sym top_first) ∙ c.leads in
+      ap (λ b. top_iter b (P plan) c.count (opened_run b (P plan))) same_bodies ∙ ap (λ t. top_iter (B plan) (P plan) c.count t) (sym top_first) ∙ c.leads in
       let text : written (top_iter (flattened.flat_of (P plan)) (P plan) c.count (opened_run (flattened.flat_of (P plan)) (P plan))) ≡ written_by n s0 =
-        ap written top ∙ written_top (after n s0).mode (after n s0) (state_after n s0) in
-      subst (λ (t : Text). Begins t st.transcript) text (flat_so_far (P plan) compilable e st r c.count)
+      ap written top ∙ written_top (after n s0).mode (after n s0) (state_after n s0) in
+      subst (λ (t : Text). Begins t st.transcript) text (flat_so_far (P plan) (compilable plan) e st r c.count)
 
   so_far_at : (e : rules.Ending) (st : State) → Runs (P plan) e st → (n : ℕ) → Follows plan n 0 s0 [] [] ⊎ Lost plan n 0 s0 [] [] → Begins (written_by n s0) st.transcript
   so_far_at e st r n (inl c) = so_far_by e st r n c

@@ -42,7 +42,7 @@ pub record Firm (course : Course) (plan : Plan) (stack : Stack) (memory : Memory
   pub initializers : map seen_initializer plan.initializers ≡ (program_in plan).initializers
   pub troubles : plan.troubles ≡ (program_in plan).trouble_place
   pub roomy : Roomy plan.codes stack.width
-  pub space : 0 < stack.width
+  pub space : 8 ≤ stack.width
   pub passes : stack.width ≤ room
   pub arguments : room ≡ room_in plan
   pub depth : stack.depth ≡ (program_in plan).depth_limit

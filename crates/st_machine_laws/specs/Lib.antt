@@ -2,3 +2,4 @@ pub mod Holding
 pub mod StaysReady
 pub mod Moments
 pub mod WholeRun
+pub mod RunToEnd
