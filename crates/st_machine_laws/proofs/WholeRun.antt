@@ -174,22 +174,21 @@ module _ (plan : Plan) (memory : Memory) (o : Opened plan memory) (law : StepLaw
       sym c.leads ∙ ap (λ t. top_iter (B plan) (P plan) c.count t) top_first ∙ ap (λ k. top_iter (B plan) (P plan) k (opened_run (B plan) (P plan))) (sym rest)
       ∙ steps_add (B plan) (P plan) f.steps (c.count - f.steps) (opened_run (B plan) (P plan)) ∙ ap (λ t. top_iter (B plan) (P plan) (c.count - f.steps) t) f.ends ∙ ended_stays (B plan) (P plan) (c.count - f.steps) f.ending f.state
 
+  ends_with : (n : ℕ) (c : Follows plan n 0 s0 [] []) (e : Ending) → (after n s0).mode ≡ mode.Ended e → EndsAsTheRules plan s0 n e
+  ends_with n c e is =
+      let leads : top_iter (B plan) (P plan) c.count (opened_run (B plan) (P plan)) ≡ Ended (ending_of e) (state_after n s0) =
+      ap (λ t. top_iter (B plan) (P plan) c.count t) (sym top_first) ∙ c.leads ∙ ap (λ m. top_by m (after n s0) (state_after n s0)) is in
+      let counted : instructions (B plan) (P plan) c.count (opened_run (B plan) (P plan)) ≡ runs_by n s0 = ap (λ t. instructions (B plan) (P plan) c.count t) (sym top_first) ∙ c.counted in
+      let runs : MachineRuns (flattened.flat_of (P plan)) (P plan) (ending_of e) (state_after n s0) (runs_by n s0) =
+      subst (λ b. MachineRuns b (P plan) (ending_of e) (state_after n s0) (runs_by n s0)) (sym same_bodies) (record { steps = c.count; leads = leads; counted = counted }) in
+      let all : 0 + runs_by n s0 ≡ runs_by n s0 = omega arith in
+      let (st, r, alike) = (same_run plan).of_the_machine (ending_of e) (state_after n s0) (runs_by n s0) runs in
+      record { runs = runs; counted = c.holds.firm.ran ∙ c.ran ∙ ap (λ k. min k (2 ^ 64 - 1)) all; state = st; rules = r; alike = alike }
+
   ends_at : (n : ℕ) (c : Follows plan n 0 s0 [] []) → IsOver (after n s0).mode → IsRun plan s0
   ends_at n c over =
       let x : Over (after n s0).mode = ending_in (after n s0).mode over in
-      let leads : top_iter (B plan) (P plan) c.count (opened_run (B plan) (P plan)) ≡ Ended (ending_of x.ending) (state_after n s0) =
-      ap (λ t. top_iter (B plan) (P plan) c.count t) (sym top_first) ∙ c.leads ∙ ap (λ m. top_by m (after n s0) (state_after n s0)) x.is in
-      let counted : instructions (B plan) (P plan) c.count (opened_run (B plan) (P plan)) ≡ runs_by n s0 = ap (λ t. instructions (B plan) (P plan) c.count t) (sym top_first) ∙ c.counted in
-      let runs : MachineRuns (flattened.flat_of (P plan)) (P plan) (ending_of x.ending) (state_after n s0) (runs_by n s0) =
-      subst (λ b. MachineRuns b (P plan) (ending_of x.ending) (state_after n s0) (runs_by n s0)) (sym same_bodies) (record { steps = c.count; leads = leads; counted = counted }) in
-      let all : 0 + runs_by n s0 ≡ runs_by n s0 = omega arith in
-      let (st, r, alike) = (same_run plan).of_the_machine (ending_of x.ending) (state_after n s0) (runs_by n s0) runs in
-      record {
-        steps = n;
-        ending = x.ending;
-        ended = x.is;
-        follows = λ no. record { runs = runs; counted = c.holds.firm.ran ∙ c.ran ∙ ap (λ k. min k (2 ^ 64 - 1)) all; state = st; rules = r; alike = alike };
-      }
+      record { steps = n; ending = x.ending; ended = x.is; follows = λ no. ends_with n c x.ending x.is }
 
   lost_at : (n : ℕ) → Lost plan n 0 s0 [] [] → IsRun plan s0
   lost_at n x = record { steps = n; ending = ending.Stranded; ended = x.mode; follows = λ no. absurd (no refl) }
@@ -252,6 +251,17 @@ module _ (plan : Plan) (memory : Memory) (o : Opened plan memory) (law : StepLaw
       let over : IsOver (after within.run.steps s0).mode = subst IsOver (sym within.run.ended) tt in
       subst (λ n. IsOver (after n s0).mode) rest (subst (λ (s : Seen). IsOver s.mode) (after_after within.run.steps (bound_of plan - within.run.steps) s0)
       (subst (λ (s : Seen). IsOver s.mode) (sym (over_stays (bound_of plan - within.run.steps) (after within.run.steps s0).mode (after within.run.steps s0) refl over)) over))
+
+  -- at each moment at which the run has ended
+  ends_by_moment : (n : ℕ) (e : Ending) → (after n s0).mode ≡ mode.Ended e → (e ≡ ending.Stranded → ⊥) → Follows plan n 0 s0 [] [] ⊎ Lost plan n 0 s0 [] [] → EndsAsTheRules plan s0 n e
+  ends_by_moment n e is other (inl c) = ends_with n c e is
+  ends_by_moment n e is other (inr x) =
+      let both : mode.Ended e ≡ mode.Ended ending.Stranded = sym is ∙ x.mode in
+      let same : e ≡ ending.Stranded = cc in
+      absurd (other same)
+
+  pub ends_so : (n : ℕ) (e : Ending) → (after n s0).mode ≡ mode.Ended e → (e ≡ ending.Stranded → ⊥) → EndsAsTheRules plan s0 n e
+  ends_so n e is other = ends_by_moment n e is other (at_moment n)
 
   -- ---- what was written
 
