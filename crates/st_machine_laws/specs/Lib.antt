@@ -2,4 +2,3 @@ pub mod Holding
 pub mod StaysReady
 pub mod Moments
 pub mod WholeRun
-pub mod RunToEnd

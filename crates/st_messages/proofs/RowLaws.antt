@@ -14,6 +14,7 @@ use Rattle.st_collections.specs.AtOnce.{making_action, ordered_action, pair_acti
 use Rattle.st_collections.specs.SequenceRows.{collection_action}
 use Rattle.st_collections.specs.declared.message.OfOrdered.{OfOrdered}
 use Rattle.st_collections.specs.declared.message.OfPair.{OfPair}
+use Rattle.st_rules.specs.NumberRows.{number_action}
 use Rattle.st_rules.specs.Sends.{row_action}
 use Rattle.st_messages.specs.declared.row.MessageRow.{MessageRow}
 use Rattle.st_messages.specs.declared.row.OfMaker.{OfMaker}
@@ -124,7 +125,7 @@ at_once-is (Slots m) y e = cc
 -- ---- rows of collections
 
 pub makers_same : (p : Program) (s : Store) (m : OfMaker) (r : Value) (args : List Value) → row_action p s (maker_row m) r args ≡ making_action p s (making_of m) r args
-unfolding row_action
+unfolding row_action number_action
 makers_same p s OfMaker.Array r args = refl
 makers_same p s OfMaker.ByteArray r args = refl
 makers_same p s OfMaker.With r args = refl
@@ -132,6 +133,8 @@ makers_same p s OfMaker.WithAll r args = refl
 makers_same p s OfMaker.Empty r args = refl
 makers_same p s OfMaker.KeyValue r args = refl
 makers_same p s OfMaker.Arrow r args = refl
+makers_same p s OfMaker.To r args = refl
+makers_same p s OfMaker.ToBy r args = refl
 
 pub ordered_same : (p : Program) (s : Store) (m : OfOrdered) (r : Value) (args : List Value) → row_action p s (Collections (ordered_row m)) r args ≡ ordered_action p s m r args
 unfolding row_action

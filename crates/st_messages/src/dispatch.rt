@@ -18,6 +18,7 @@ use crate::exceptions::exception_message;
 use crate::facts::ProgramFacts;
 use crate::level::level_now;
 use crate::loops::loop_reply;
+use crate::numbers::number_reply;
 use crate::objects::object_message;
 use crate::reply::{Reply, answer};
 use crate::row::{MessageRow, OfMaker};
@@ -41,6 +42,8 @@ fn maker_of(message: OfMaker) -> OfMaking
         OfMaker::Empty => OfMaking::Empty,
         OfMaker::KeyValue => OfMaking::KeyValue,
         OfMaker::Arrow => OfMaking::Arrow,
+        OfMaker::To => OfMaking::To,
+        OfMaker::ToBy => OfMaking::ToBy,
     }
 }
 
@@ -63,6 +66,7 @@ fn row_reply<H: Heap, P: ProgramFacts>(
         MessageRow::Object(m) => object_message(heap, program, m, receiver, arguments),
         MessageRow::Class(m) => class_message(heap, program, m, receiver, arguments),
         MessageRow::Boolean(m) => boolean_message(m, receiver, arguments),
+        MessageRow::Number(m) => number_reply(heap, program, m, receiver, arguments),
         MessageRow::Transcript(m) => transcript_message(heap, m, receiver, arguments),
         MessageRow::Character(m) => {
             let message = CollectionMessage::Character(m);
@@ -186,8 +190,8 @@ fn found_message<H: Heap, P: ProgramFacts>(
     }
 }
 
-/// Does what a send does at once (section 3.3). None, with nothing changed, where it finds a
-/// message that isn't done here, of numbers or `copy`, or where `row_message` has none.
+/// Does what a send does at once (section 3.3). None, with nothing changed, where `row_message` has
+/// none.
 pub fn send_message<H: Heap, P: ProgramFacts>(
     heap: &mut H,
     program: &P,

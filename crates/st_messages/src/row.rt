@@ -2,6 +2,7 @@
 use crate::reply::Control;
 use st_collections::{OfCharacter, OfOrdered, OfPair, OfSequence, OfString};
 use st_loops::LoopKind;
+use st_numbers::NumberMessage;
 
 /// A row of the table of built-in messages that acts at once (ANSI NCITS 319, 5).
 #[derive(Clone, Copy, Debug, PartialEq, Eq)]
@@ -9,6 +10,7 @@ pub enum MessageRow {
     Object(OfObject),
     Class(OfClass),
     Boolean(OfBoolean),
+    Number(OfNumber),
     Transcript(OfTranscript),
     Character(OfCharacter),
     String(OfString),
@@ -29,6 +31,8 @@ pub enum MessageRow {
 pub enum OfObject {
     /// What it is.
     Question(OfQuestion),
+    /// `copy`
+    Copy,
     /// `printString`
     PrintString,
     /// `displayString`
@@ -118,7 +122,20 @@ pub enum OfBoolean {
     IfFalseIfTrue,
 }
 
-/// The messages that make a collection or an Association (section 5.7).
+/// The messages of Integers and Fractions (section 5.6).
+#[derive(Clone, Copy, Debug, PartialEq, Eq)]
+pub enum OfNumber {
+    /// Arithmetic and comparisons.
+    Computes(NumberMessage),
+    /// `asString`
+    AsString,
+    /// `printString:`
+    PrintRadix,
+    /// `numerator:denominator:` of class Fraction
+    FromNumerator,
+}
+
+/// The messages that make a collection, an Association or an Interval (sections 5.6 and 5.7).
 #[derive(Clone, Copy, Debug, PartialEq, Eq)]
 pub enum OfMaker {
     /// `new:` of class Array
@@ -135,6 +152,10 @@ pub enum OfMaker {
     KeyValue,
     /// `->` of any object
     Arrow,
+    /// `to:` of Integer
+    To,
+    /// `to:by:` of Integer
+    ToBy,
 }
 
 /// The messages of the Transcript (section 5.10).

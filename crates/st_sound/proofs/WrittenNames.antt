@@ -84,7 +84,7 @@ built_size : length built ≡ 30
 unfolding built_in_class_rows built_in_classes
 built_size = refl
 
-grows_late : (k : ℕ) → 15 < k → grows k ≡ false
+pub grows_late : (k : ℕ) → 15 < k → grows k ≡ false
 grows_late k l = rw (ne_eqb k 13 (λ e. let none : ⊥ = omega (arith, e, l) in none), ne_eqb k 14 (λ e. let none : ⊥ = omega (arith, e, l) in none), ne_eqb k 15 (λ e. let none : ⊥ = omega (arith, e, l) in none)) refl
 
 not_grows : (b : Bool) → not b ≡ true → b ≡ false

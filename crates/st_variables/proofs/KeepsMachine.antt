@@ -1,7 +1,7 @@
 -- Each object keeps its slots, each body and closure is of the class of its code, and no loop takes elements out of an object of a class of the file: a law for each small step of the flat machine.
-use Rattle.std.proofs.Common.{◌≡◌, ℕ, ◌+◌, ◌<◌, ◌≤◌, max, length, List, [], ◌∷◌, Option, Some, None, Bool, true, false, drop, lt-ltb, refl, sym, ap, subst, arith, nat_lt, nat_le, if◌then◌else◌}
+use Rattle.std.proofs.Common.{◌≡◌, ℕ, ◌+◌, ◌<◌, ◌≤◌, max, length, List, [], ◌∷◌, Option, Some, None, Bool, true, false, drop, lt-ltb, refl, sym, ap, subst, arith, nat_lt, nat_le, if◌then◌else◌, ◌++◌, zero, suc, inl, inr, slice_get}
 use Rattle.object_heap.specs.declared.value.Value.{Value}
-use Rattle.object_heap.specs.declared.value.Value.TheVariants.{Nil, True, False, Integer, Character, Symbol, Class, Meta, Transcript, Object}
+use Rattle.object_heap.specs.declared.value.Value.TheVariants.{Symbol, Object}
 use Rattle.object_heap.specs.declared.value.Closure.{Closure}
 use Rattle.object_heap.specs.Store.{Store, object_at}
 use Rattle.st_code.specs.Program.{Program, body_at}
@@ -12,11 +12,11 @@ use Rattle.st_collections.specs.Actions.{Action, Gives, Changes, Makes, Writes, 
 use Rattle.st_collections.specs.Kinds.{is_true}
 use Rattle.st_rules.specs.State.{State, Entry, Env, Target, Outcome, Answer, Go, Stop, Turn, Mark, FoundTurn, NoTurn, TurnAt, turn_of, with_store, is_live, step_made, stood, used, scope_cells}
 use Rattle.st_rules.specs.Ends.{charged, ended, with_arguments, with_message, Opening, block_opening, method_opening, turn_end, outer_end, SignalVerdict, Ends, Signals, signal_end, Verdict, Leaves, Again, protect_end, Search, asks_nested, Wait, ToResume, ToOuter}
-use Rattle.st_rules.specs.Rules.{Use, Apply, Activate, Enter, SendTo, SuperTo, Perform, Raise, RaiseNew, SignalPoint, Resignaled, SearchIn, TurnBy, Ask, Protect, Finish, VisitBy, RunBody, closure_for, apply_by, handler_by, exception_slots, with_exception, exception_cells}
+use Rattle.st_rules.specs.Rules.{Use, Apply, Activate, Enter, SendTo, SuperTo, Perform, Raise, RaiseNew, SignalPoint, Resignaled, SearchIn, TurnBy, Ask, Protect, Finish, VisitBy, RunBody, closure_for, apply_by, handler_by, with_exception, exception_cells}
 use Rattle.st_rules.specs.Machine.{Act, BodyAct, Leaving, ProtectAct, EnsureOn, CurtailOn, ActionOff, SignalAct, HandlerRun, OuterAct, ResumeWait, HandlesWait, LoopAct, Mach, Run, Settle, Begin, Over, Stuck, Bodies, marks, open_act, raise_act, raise_new_act, tried_act, judged_act, search_act, turn_act, asked_act, resignal_act, resignal_as_act, control_by_act, control_without_act, control_in_act, control_act, visit_act, perform_act, begin, protect_verdict, signal_verdict, give, unwind, step}
 use Rattle.st_rules.specs.Flat.{FlatBody, flat_number}
 use Rattle.st_rules.specs.Flattened.{flat_of}
-use Rattle.st_rules.specs.Objects.{Has, AllHave, ObjectsHave, ClosuresHave, Grown, VisitHas, ActionHas, UseHas, ActHas, ActsHave, LoopHas, KnowsLiterals}
+use Rattle.st_rules.specs.Objects.{Has, AllHave, ObjectsHave, ClosuresHave, Grown, Made, SameOrOneAgain, VisitHas, ActionHas, UseHas, ActHas, ActsHave, LoopHas, KnowsLiterals}
 use Rattle.st_rules.specs.Selves.{KnowsClasses}
 use Rattle.st_rules.proofs.ObjectsMachine.{Here, size, grown_here}
 use Rattle.st_rules.proofs.SelvesMachine.{UseFits, exception_grows, arguments_grow, arguments_there, message_grows}
@@ -79,6 +79,23 @@ module _ (p : Program) (s t : Store) (classes : (n : ℕ) → n < length s.objec
 
 pub grown_rest : (p : Program) (acts : List (Act FlatBody)) (st : State) (s : Store) → Here p acts st → Rest p acts st → AllFull p s.objects → Grown st.store s → Rest p acts (record st { store = s })
 grown_rest p acts st s h r f e = (f, (subst (λ cs. ClosuresAre p cs) (sym e.closures) r.1.0, acts_later p st.store s e.classes acts h.1 r.1.1))
+
+closure_is : (p : Program) (cs : List Closure) (n : ℕ) (c : Closure) → slice_get cs n ≡ Some c → ClosuresAre p cs → ClosureIs p c
+closure_is p [] n c e h = cc
+closure_is p (d ∷ cs) zero c e h = let same : d ≡ c = cc in subst (λ x. ClosureIs p x) same h.0
+closure_is p (d ∷ cs) (suc n) c e h = closure_is p cs n c e h.1
+
+closure_added : (p : Program) (cs : List Closure) (c : Closure) → ClosuresAre p cs → ClosureIs p c → ClosuresAre p (cs ++ c ∷ [])
+closure_added p [] c h g = (g, tt)
+closure_added p (d ∷ cs) c h g = (h.0, closure_added p cs c h.1 g)
+
+closures_made : (p : Program) (cs cs' : List Closure) → SameOrOneAgain cs cs' → ClosuresAre p cs → ClosuresAre p cs'
+closures_made p cs cs' (inl e) h = subst (λ xs. ClosuresAre p xs) (sym e) h
+closures_made p cs cs' (inr a) h = subst (λ xs. ClosuresAre p xs) (sym a.added) (closure_added p cs a.closure h (closure_is p cs a.place a.closure a.is h))
+
+-- the same, where a block may have been copied
+made_rest : (p : Program) (acts : List (Act FlatBody)) (st : State) (s : Store) → Here p acts st → Rest p acts st → AllFull p s.objects → Made st.store s → Rest p acts (record st { store = s })
+made_rest p acts st s h r f e = (f, (closures_made p st.store.closures s.closures e.closures r.1.0, acts_later p st.store s e.grown.classes acts h.1 r.1.1))
 
 module _ (p : Program) where
   -- ---- charges
@@ -219,7 +236,7 @@ module _ (p : Program) (known : KnowsVariables p) (literals : KnowsLiterals p) (
     perform_keep : (a : Action) (env : Env) (acts : List (Act FlatBody)) (st : State) → Here p acts st → ActionHas st.store a → Rest p acts st → ActionKeeps p st.store a → MachKeeps p (perform_act F p a env acts st)
     perform_keep (Gives v) env acts st h g r f = r
     perform_keep (Changes s v) env acts st h g r f = grown_rest p acts st s h r f g.0
-    perform_keep (Makes cells s v) env acts st h g r f = used_keep p cells st _ _ r (λ c. grown_rest p acts (record st { cells = c }) s h r f g.0)
+    perform_keep (Makes cells s v) env acts st h g r f = used_keep p cells st _ _ r (λ c. made_rest p acts (record st { cells = c }) s h r f g.0)
     perform_keep (Writes text v) env acts st h g r f = r
     perform_keep (Fails trouble) env acts st h g r f = (r, tt)
     perform_keep (DividesByZero dividend) env acts st h g r f = (r, tt)

@@ -2,7 +2,7 @@
 use Rattle.std.proofs.Common.{◌≡◌, ℕ, zero, suc, ◌<◌, length, List, [], ◌∷◌, ◌++◌, Option, Some, None, Bool, true, false, refl, sym, ap, ◌∙◌, subst, arith, if◌then◌else◌}
 use Rattle.std.proofs.lemmas.List.{get_or_append_left}
 use Rattle.object_heap.specs.declared.value.Value.{Value}
-use Rattle.object_heap.specs.declared.value.Value.TheVariants.{Nil, Object}
+use Rattle.object_heap.specs.declared.value.Value.TheVariants.{Object}
 use Rattle.object_heap.specs.declared.value.Closure.{Closure}
 use Rattle.object_heap.specs.Store.{Store, Object as HeapObject, Scope as StoreScope, no_object, object_at, with_slot, with_variable, block_object}
 use Rattle.st_code.specs.declared.instruction.Variable.{Variable}
@@ -29,7 +29,7 @@ use Rattle.st_rules.proofs.ObjectsMachine.{Here, size}
 use Rattle.st_rules.proofs.ObjectsRun.{Goes, TopKeeps, kept_has, first_has}
 use Rattle.st_rules.proofs.SelvesRun.{TopFits, both}
 use Rattle.st_variables.specs.Known.{AllFull, Knows, KnowsVariables}
-use Rattle.st_variables.proofs.Wholes.{ClosureIs, ClosuresAre, not_of_file, full_append, slot_full}
+use Rattle.st_variables.proofs.Wholes.{ClosuresAre, not_of_file, full_append, slot_full}
 use Rattle.st_variables.proofs.KeepsMachine.{BodyIs, Rest, MachKeeps, acts_later, used_keep, open_keep, begin_keep, settle_keep}
 
 abbrev set_variable_of : Option ℕ → ℕ → Value → Store → Store

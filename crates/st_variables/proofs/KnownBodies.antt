@@ -1,11 +1,11 @@
 -- The trees that are made of a text know their variables, where each name that is read or assigned to does.
-use Rattle.std.proofs.Common.{◌≡◌, ℕ, suc, ◌+◌, ◌≤◌, List, [], ◌∷◌, ◌++◌, length, Option, Some, None, Bool, true, false, refl, sym, ap, ◌∙◌, subst, arith, if◌then◌else◌}
+use Rattle.std.proofs.Common.{◌≡◌, ℕ, suc, ◌+◌, ◌≤◌, List, [], ◌∷◌, ◌++◌, length, Bool, true, false, refl, sym, ap, ◌∙◌, subst, arith, if◌then◌else◌}
 use Rattle.std.proofs.lemmas.List.{length-append}
 use Rattle.object_heap.specs.declared.value.Value.{Value}
 use Rattle.object_heap.specs.declared.value.Value.TheVariants.{Nil, Class, Meta}
 use Rattle.object_heap.specs.Store.{Object as HeapObject}
 use Rattle.st_code.specs.Texts.{Text}
-use Rattle.st_code.specs.Program.{Program, Tree, Trees, Messages, no_messages, more_messages, Statement, Plain, Return, Body, Side, OfInstance, OfClass, OfMeta, body_at}
+use Rattle.st_code.specs.Program.{Program, Tree, Trees, Messages, no_messages, more_messages, Statement, Plain, Return, Body, Side, OfInstance, OfClass}
 use Rattle.st_code.specs.BuiltIns.{exception_set_class}
 use Rattle.st_code.specs.Named.{Literal, NilLiteral, TrueLiteral, FalseLiteral, IntegerLiteral, CharacterLiteral, StringLiteral, SymbolLiteral, ArrayLiteral, Literals, no_literals, more_literals, NamedPrimary, NameOf, SelfName, SuperName, LiteralOf, BlockOf, ParenOf, NamedOperand, OperandOf, NamedOperands, no_operands, more_operands, NamedMessages, none_sent, then_sent, NamedExpr, ExprOf, NamedStatements, no_statements, more_statements}
 use Rattle.st_code.specs.Resolved.{Names, Meant, At, Value', meant, Made, Counts, behind, Context, tree_of, place_of, assigned, Receiver, ToTree, ToSuper, sent, receiver_tree, cascaded, Chain, one_sent, with_cascade, is_one_sent, number_or_last, literal_made, literals_made, primary_made, chain_made, messages_made, args_made, operand_made, expr_made, statements_made}

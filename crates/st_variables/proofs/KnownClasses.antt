@@ -1,17 +1,17 @@
 -- The classes of a file by number: each has the slots and class instance variables of the class above it, and its own.
-use Rattle.std.proofs.Common.{◌≡◌, ℕ, zero, suc, ◌+◌, ◌<◌, ◌≤◌, ◌⊎◌, inl, inr, List, [], ◌∷◌, ◌++◌, map, length, get_or, append_assoc, append-nil, Option, Some, None, Bool, true, false, not, ◌&&◌, ◌||◌, refl, sym, ap, ◌∙◌, subst, arith, nat_lt, nat_le, nat_eq, eqb-true, ltb-true, true≢false}
+use Rattle.std.proofs.Common.{◌≡◌, ℕ, zero, suc, ◌+◌, ◌<◌, ◌≤◌, ◌⊎◌, inl, inr, List, [], ◌∷◌, ◌++◌, map, length, append_assoc, append-nil, Option, Some, None, Bool, true, false, not, ◌&&◌, ◌||◌, refl, sym, ap, ◌∙◌, subst, arith, nat_lt, nat_eq, eqb-true, ltb-true, true≢false}
 use Rattle.std.proofs.lemmas.Bool.{le-leb}
 use Rattle.std.proofs.lemmas.List.{length-append, length-map}
 use Rattle.st_code.specs.Texts.{Text, same_text}
-use Rattle.st_code.specs.Program.{ClassRow, NoIndexes}
+use Rattle.st_code.specs.Program.{ClassRow}
 use Rattle.st_code.specs.Named.{NamedClass, NamedUnit, ClassUnit, GlobalUnit, PoolVariableUnit, InitializerUnit, PoolInitializerUnit, ProgramUnit, MethodUnit, ClassMethodUnit}
 use Rattle.st_code.specs.Resolved.{SharedName, ClassName, ClassInstanceName, ClassNames, Names, no_names, class_names_at, class_in}
-use Rattle.st_code.specs.Definitions.{built_in_names, class_row, class_over, class_variables, declared_unit, declared_units, names_of, or_zero}
+use Rattle.st_code.specs.Definitions.{built_in_names, class_over, class_variables, declared_unit, declared_units, names_of, or_zero}
 use Rattle.st_code.specs.BuiltIns.{built_in_classes, built_in_class_rows, exception_set_class, class_class}
 use Rattle.st_variables.specs.Known.{is_open}
 use Rattle.st_variables.specs.Assigned.{IsExtensible, Extends}
 
-abbrev built : List ClassNames
+abbrev pub built : List ClassNames
 built = map built_in_names built_in_class_rows
 
 -- a class, and the one above it
@@ -66,7 +66,7 @@ built_fit : all_fit built 0 built ≡ true
 unfolding built_in_class_rows built_in_classes
 built_fit = refl
 
-built_size : length built ≡ suc exception_set_class
+pub built_size : length built ≡ suc exception_set_class
 unfolding built_in_class_rows built_in_classes
 built_size = refl
 
@@ -148,7 +148,7 @@ built_rows =
 -- ---- one more class
 
 -- a number names what it did, or the new class
-after : (cs : List ClassNames) (new : ClassNames) (k : ℕ) → (class_names_at (cs ++ new ∷ []) k ≡ class_names_at cs k) ⊎ ((k ≡ length cs) × (class_names_at (cs ++ new ∷ []) k ≡ new))
+pub after : (cs : List ClassNames) (new : ClassNames) (k : ℕ) → (class_names_at (cs ++ new ∷ []) k ≡ class_names_at cs k) ⊎ ((k ≡ length cs) × (class_names_at (cs ++ new ∷ []) k ≡ new))
 after [] new zero = inr (refl, refl)
 after [] new (suc k) = inl refl
 after (c ∷ cs) new zero = inl refl
@@ -167,11 +167,11 @@ found_in n (c ∷ cs) ds t = go (same_text c.row.name t) (found_in (suc n) cs ds
     go true e = refl
     go false e = let l : suc n + length cs ≡ n + length (c ∷ cs) = omega arith in e ∙ ap (λ m. or_behind (class_in (suc n) cs t) (class_in m ds t)) l
 
-abbrev Between : ℕ → ℕ → Option ℕ → Type 0
+abbrev pub Between : ℕ → ℕ → Option ℕ → Type 0
 Between n m None = Unit {0}
 Between n m (Some a) = (n ≤ a) × (a < m)
 
-found_between : (n : ℕ) (cs : List ClassNames) (t : Text) → Between n (n + length cs) (class_in n cs t)
+pub found_between : (n : ℕ) (cs : List ClassNames) (t : Text) → Between n (n + length cs) (class_in n cs t)
 found_between n [] t = tt
 found_between n (c ∷ cs) t = go (same_text c.row.name t) (found_between (suc n) cs t)
   where

@@ -1,14 +1,12 @@
 -- Code whose variables are known, from trees whose variables are.
-use Rattle.std.proofs.Common.{◌≡◌, ℕ, zero, suc, ◌<◌, List, [], ◌∷◌, map, get_or, Option, Some, None, Bool, true, false, refl}
+use Rattle.std.proofs.Common.{◌≡◌, ℕ, zero, suc, ◌<◌, List, [], ◌∷◌, map, get_or, Option, Some, None, Bool, true, false}
 use Rattle.object_heap.specs.declared.value.Value.{Value}
 use Rattle.object_heap.specs.declared.value.Value.TheVariants.{Nil}
 use Rattle.st_code.specs.declared.instruction.Variable.{Variable}
-use Rattle.st_code.specs.declared.instruction.Instruction.{Instruction}
 use Rattle.st_code.specs.declared.instruction.Instruction.TheVariants as instruction
-use Rattle.st_code.specs.declared.instruction.CodeKind.TheVariants.{Block as BlockCode}
 use Rattle.st_code.specs.Program.{Program, Place, Scoped, Slot, ClassSlot, Shared, Tree, Constant, Self, Variable as VariableTree, Assign, Block, Send, SuperSend, Cascade, SuperCascade, Trees, no_trees, more_trees, Messages, no_messages, more_messages, Statement, Plain, Return, Kind, InMethod, InBlock, InInitializer, Body, body_at}
 use Rattle.st_code.specs.Code.{Instr, PushConstant, PushSelf, Pop, Dup, PushVariable, Store, SendMessage, SendSuper, MakeBlock, MethodReturn, HomeReturn, BlockEnd, return_of, count_of, dup_for, pop_for, code, code_args, code_messages, end_code, empty_code, code_on, code_body}
-use Rattle.st_code.specs.Compiled.{Compiled, any_captured, is_captured, outwards, scoped_at, placed, instruction_of, variable_at, compiled_body, compiled_from, compile_of}
+use Rattle.st_code.specs.Compiled.{any_captured, is_captured, outwards, scoped_at, placed, instruction_of, variable_at, compiled_body, compiled_from, compile_of}
 use Rattle.st_rules.specs.Flat.{code_at, no_code}
 use Rattle.st_rules.specs.Objects.{AllIn, AllCodes, NamesShared, KnowsShared}
 use Rattle.st_variables.specs.Known.{SlotKnown, ClassSlotKnown, OwnKnown, Knows}

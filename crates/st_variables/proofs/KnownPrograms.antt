@@ -1,22 +1,22 @@
 -- The program that the units of a file are knows its variables, where each name that is assigned to stands for one.
-use Rattle.std.proofs.Common.{◌≡◌, ℕ, zero, suc, ◌+◌, ◌<◌, ◌≤◌, ◌⊎◌, inl, inr, List, [], ◌∷◌, ◌++◌, map, length, get_or, append_assoc, Option, Some, None, Bool, true, false, refl, sym, ap, ◌∙◌, subst, arith, true≢false}
+use Rattle.std.proofs.Common.{◌≡◌, ℕ, zero, suc, ◌+◌, ◌<◌, ◌≤◌, inl, inr, List, [], ◌∷◌, ◌++◌, map, length, get_or, append_assoc, Option, Some, None, Bool, true, false, refl, sym, ap, ◌∙◌, subst, arith, true≢false}
 use Rattle.std.proofs.lemmas.Bool.Decides.{leb_tells}
 use Rattle.object_heap.specs.declared.value.Value.{Value}
-use Rattle.object_heap.specs.declared.value.Value.TheVariants.{Nil, Class, Meta}
+use Rattle.object_heap.specs.declared.value.Value.TheVariants.{Class, Meta}
 use Rattle.object_heap.specs.Store.{Object as HeapObject}
 use Rattle.object_heap.specs.Troubles.{trouble_texts}
 use Rattle.st_code.specs.Texts.{Text, same_text}
 use Rattle.st_code.specs.Literals.{literal_string, trouble_literals}
-use Rattle.st_code.specs.Program.{Program, Place, Scoped, Slot, ClassSlot, Shared, Side, OfInstance, OfClass, OfMeta, Kind, InMethod, InInitializer, MethodRow, Initializer, Body as BodyRow, NoIndexes, ClassRow, class_at}
+use Rattle.st_code.specs.Program.{Program, Scoped, Slot, ClassSlot, Side, OfInstance, OfClass, Kind, InMethod, InInitializer, MethodRow, Initializer, Body as BodyRow, NoIndexes, ClassRow, class_at}
 use Rattle.st_code.specs.Named.{NamedBody, NamedUnit, ClassUnit, GlobalUnit, PoolVariableUnit, InitializerUnit, PoolInitializerUnit, ProgramUnit, MethodUnit, ClassMethodUnit}
-use Rattle.st_code.specs.Resolved.{SharedName, GlobalName, PoolName, ClassName, same_shared, place_in, ClassNames, Names, class_names_at, class_in, text_in, Meant, At, Value', or_meant, meant_shared, in_pools, in_classes, meant_class, own_names, meant_slot, or_transcript, meant_outside, meant_from, meant, body_made}
+use Rattle.st_code.specs.Resolved.{SharedName, GlobalName, PoolName, ClassName, same_shared, place_in, ClassNames, Names, class_names_at, class_in, text_in, Meant, At, or_meant, meant_shared, in_pools, in_classes, meant_class, own_names, meant_slot, or_transcript, meant_outside, meant_from, meant, body_made}
 use Rattle.st_code.specs.Definitions.{RunLimits, Defined, nothing_defined, names_of, context, class_row, body_in, with_body, initialized, defined_unit, defined_units, or_zero, program_of}
-use Rattle.st_code.specs.BuiltIns.{undefined_object_class, class_class, exception_set_class}
+use Rattle.st_code.specs.BuiltIns.{undefined_object_class, exception_set_class}
 use Rattle.st_code.specs.Lookup.{some_superclasses, superclasses}
 use Rattle.st_rules.proofs.SoundTrees.{Sits, sits_left, sits_from}
 use Rattle.st_rules.proofs.SoundProgram.{units_grow}
-use Rattle.st_variables.specs.Known.{Among, Under, InFile, AllFull, SlotKnown, ClassSlotKnown, is_open, KnowsVariables}
-use Rattle.st_variables.specs.Assigned.{BodyAssigns, InitializerAssigns, UnitAssigns, UnitsAssign, Assigned, ProgramsKnowVariables}
+use Rattle.st_variables.specs.Known.{Among, Under, InFile, AllFull, SlotKnown, ClassSlotKnown, is_open}
+use Rattle.st_variables.specs.Assigned.{BodyAssigns, InitializerAssigns, UnitAssigns, UnitsAssign, ProgramsKnowVariables}
 use Rattle.st_variables.proofs.KnownCode.{BodiesKnown, shared_known, own_known}
 use Rattle.st_variables.proofs.KnownBodies.{MeantKnown, side_value, AllLow, low_append, bodies_append, statements_known}
 use Rattle.st_variables.proofs.KnownClasses.{Above, Rows, open_from, rows_known}

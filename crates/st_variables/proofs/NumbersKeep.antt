@@ -1,5 +1,5 @@
 -- What messages to numbers do at once leaves each object its slots: new Fractions, Intervals and Strings are of built-in classes.
-use Rattle.std.proofs.Common.{ℕ, ◌^◌, ℤ, pos, negsuc, nat_abs, nat_eq, nat_le, nat_lt, List, [], ◌∷◌, Option, Some, None, Bool, true, false, ◌&&◌, arith, if◌then◌else◌}
+use Rattle.std.proofs.Common.{◌^◌, ℤ, pos, negsuc, nat_abs, nat_eq, nat_le, nat_lt, List, [], ◌∷◌, Option, Some, None, ◌&&◌, arith}
 use Rattle.object_heap.specs.declared.value.Value.{Value}
 use Rattle.object_heap.specs.declared.value.Value.TheVariants.{Integer}
 use Rattle.object_heap.specs.declared.trouble.Trouble.{Trouble}
@@ -13,7 +13,7 @@ use Rattle.st_code.specs.Program.{Program}
 use Rattle.st_code.specs.BuiltIns.{interval_class, fraction_class}
 use Rattle.st_code.specs.Messages.{NumberMessage}
 use Rattle.st_collections.specs.Actions.{Action, Fails, PassesIntegers, first, second, makes_slots, makes_string}
-use Rattle.st_collections.specs.IntervalRows.{with_integer, interval, interval_by, to_action, to_by_action}
+use Rattle.st_collections.specs.IntervalRows.{with_integer, interval, interval_by}
 use Rattle.st_collections.specs.Kinds.{interval_size, print_text, integer_of}
 use Rattle.st_rules.specs.NumberRows.{as_number, argument_of, dividend_of, troubled, numeric_action, of_number, arithmetic_action, radix_text, in_radix, Asked, asked, number_at, number_action}
 use Rattle.st_variables.specs.Known.{AllFull, KnowsVariables}

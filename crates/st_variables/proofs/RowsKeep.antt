@@ -1,12 +1,13 @@
 -- What messages to objects, classes, texts, exceptions and collections do at once leaves each object its slots.
-use Rattle.std.proofs.Common.{◌≡◌, ℕ, zero, suc, ◌+◌, ◌-◌, ◌≤◌, ℤ, pos, negsuc, nat_eq, nat_le, nat_lt, int_lt, int_le, is_some, codes, length, get_or, take, drop, reverse, replicate, map, insert, List, [], ◌∷◌, ◌++◌, Option, Some, None, Bool, true, false, not, ◌&&◌, ◌||◌, refl, sym, ◌∙◌, arith, if◌then◌else◌}
+use Rattle.std.proofs.Common.{◌≡◌, ℕ, zero, suc, ◌+◌, ◌-◌, ◌≤◌, ℤ, pos, negsuc, nat_eq, nat_le, nat_lt, int_lt, int_le, is_some, codes, length, get_or, take, drop, reverse, replicate, map, insert, List, [], ◌∷◌, ◌++◌, Option, Some, None, Bool, true, false, not, ◌&&◌, ◌||◌, refl, sym, ◌∙◌, arith, if◌then◌else◌, slice_get}
 use Rattle.std.proofs.lemmas.List.{length-append, length-replicate}
 use Rattle.object_heap.specs.declared.value.Value.{Value}
-use Rattle.object_heap.specs.declared.value.Value.TheVariants.{Nil, True, False, Integer, Character, Symbol, Class, Meta, Transcript, Object}
+use Rattle.object_heap.specs.declared.value.Value.TheVariants.{Nil, True, False, Integer, Character, Symbol, Class, Transcript, Object}
 use Rattle.object_heap.specs.declared.trouble.Trouble.{Trouble}
 use Rattle.object_heap.specs.declared.trouble.Trouble.TheVariants as trouble
-use Rattle.object_heap.specs.Store.{Store, Object as HeapObject, object_at, object_added, with_slot, with_byte}
-use Rattle.object_heap.specs.Charges.{object_charge}
+use Rattle.std.specs.Option.{option_and_then}
+use Rattle.object_heap.specs.declared.value.Closure.{Closure}
+use Rattle.object_heap.specs.Store.{Store, Object as HeapObject, closure_at, object_at, object_added, with_slot, with_byte}
 use Rattle.st_code.specs.Texts.{Text, arity, same_text, text_less, to_lower}
 use Rattle.st_code.specs.Program.{Program, Indexed, NoIndexes, ByObject, ByByte, class_at, name_at, number_of}
 use Rattle.st_code.specs.BuiltIns.{string_class, symbol_class, array_class, ordered_collection_class, association_class, byte_array_class, interval_class, exception_set_class}
@@ -14,12 +15,12 @@ use Rattle.st_code.specs.Lookup.{level_of, lookup, is_plain, is_exception, fits}
 use Rattle.st_code.specs.Messages.{ObjectMessage, ClassMessage, CharacterMessage, StringMessage, SequenceMessage, ExceptionMessage, LoopMessage, BooleanMessage, CollectionMessage, TranscriptMessage}
 use Rattle.st_collections.specs.Actions.{Action, Gives, Changes, Makes, Writes, Fails, Begins, Sends, Iterates, first, second, boolean, next_object, makes_slots, makes_bytes, makes_string, makes_blank}
 use Rattle.st_collections.specs.Kinds.{is_true, is_a, bytes_of, slots_of, slot_of, size_of, element, some_elements, elements, is_sequence, is_collection, species, print_text, exception_text, integer_of, natural_of}
-use Rattle.st_collections.specs.ObjectRows.{indexed, index_in, byte_value, byte_put, object_action, class_action, boolean_action}
+use Rattle.st_collections.specs.ObjectRows.{copied, copy, indexed, index_in, byte_value, byte_put, object_action, class_action, boolean_action}
 use Rattle.st_collections.specs.TextRows.{with_character, from_code_point, with_text, new_string, string_at, or_empty, byte_of, character_action, string_action, transcript_action}
 use Rattle.st_collections.specs.SequenceRows.{makes_sequence, element_trouble, at_put, join, copy_between, copy_from_to, with_elements, without_element, firsts, seconds, written, is_index, ordered_at, changed, class_number, sequence_action, collection_action}
 use Rattle.st_collections.specs.Loops.{loop_action}
 use Rattle.st_rules.specs.ExceptionRows.{exception_at, to_exception, kept_or_text, handles, new_exception, signal_new, selectors_of, exception_action}
-use Rattle.st_variables.specs.Known.{InFile, Full, AllFull, KnowsVariables}
+use Rattle.st_variables.specs.Known.{InFile, AllFull, KnowsVariables}
 use Rattle.st_variables.proofs.Wholes.{NoObject, NoClass, MessageKeeps, ActionKeeps, not_of_file, full_at, full_append, new_full, built_full, slot_full, byte_full, elements_full, removed_full}
 
 module _ (p : Program) (known : KnowsVariables p) (s : Store) (h : AllFull p s.objects) where
@@ -95,25 +96,16 @@ module _ (p : Program) (known : KnowsVariables p) (s : Store) (h : AllFull p s.o
   responds r (Symbol name) = record { keeps = tt }
   responds r v = record { keeps = tt }
 
-  copied : (n : ℕ) (c : Option ℕ) → (object_at n s).closure ≡ c → (cells : ℕ) → Keeps (elim c [
-    | None ↦ Makes cells (object_added (record { class = (object_at n s).class; slots = (object_at n s).slots; bytes = (object_at n s).bytes; capacity = length (object_at n s).slots; read_only = false; closure = None }) s) (next_object s)
-    | Some j ↦ Makes 2 (object_added (record { class = (object_at n s).class; slots = []; bytes = []; capacity = 0; read_only = false; closure = Some j }) s) (next_object s)
-  ])
-  copied n None e cells = record { keeps = full_append p known s.objects _ h ((λ i. (refl, (full_at p known s.objects n h i).1)), tt) }
-  copied n (Some j) e cells = record { keeps = full_append p known s.objects _ h ((λ i. let none : ⊥ = other j (sym (full_at p known s.objects n h i).0 ∙ e) in absurd none), tt) }
-    where
-      other : (j : ℕ) → ◌≡◌ {A = Option ℕ} None (Some j) → ⊥
-      other j e = grind (arith, e)
+  no_closure : (o : Option ℕ) (c : Closure) → o ≡ None → option_and_then (λ k. slice_get s.closures k) o ≡ Some c → ⊥
+  no_closure None c e f = grind (arith, f)
+  no_closure (Some k) c e f = grind (arith, e)
 
-  abbrev copy : Value → Action
-  copy (Object number) = elim (object_at number s).closure [
-    | None ↦ Makes (object_charge (length (object_at number s).slots) (length (object_at number s).bytes)) (object_added (record { class = (object_at number s).class; slots = (object_at number s).slots; bytes = (object_at number s).bytes; capacity = length (object_at number s).slots; read_only = false; closure = None }) s) (next_object s)
-    | Some j ↦ Makes 2 (object_added (record { class = (object_at number s).class; slots = []; bytes = []; capacity = 0; read_only = false; closure = Some j }) s) (next_object s)
-  ]
-  copy v = Gives v
+  copied_keeps : (n : ℕ) (c : Option Closure) → closure_at n s ≡ c → Keeps (copied s (object_at n s) c)
+  copied_keeps n None e = record { keeps = full_append p known s.objects _ h ((λ i. (refl, (full_at p known s.objects n h i).1)), tt) }
+  copied_keeps n (Some c) e = record { keeps = full_append p known s.objects _ h ((λ i. absurd (no_closure (object_at n s).closure c (full_at p known s.objects n h i).0 e)), tt) }
 
-  copies : (v : Value) → Keeps (copy v)
-  copies (Object number) = copied number (object_at number s).closure refl _
+  copies : (v : Value) → Keeps (copy s v)
+  copies (Object number) = copied_keeps number (closure_at number s) refl
   copies v = record { keeps = tt }
 
   text_or_sent : (o : Option Text) (selector : ℕ) (r : Value) → Keeps (elim o [ Some bytes ↦ makes_string bytes s | None ↦ Sends selector r [] ])

@@ -7,8 +7,8 @@ use Rattle.object_heap.specs.declared.value.Closure.{Closure}
 use Rattle.object_heap.specs.declared.trouble.Trouble.TheVariants.{WrongNumberOfArguments, CollectionExpected}
 use Rattle.object_heap.specs.Store.{Store, object_at}
 use Rattle.st_code.specs.Texts.{Text, same_text}
-use Rattle.st_code.specs.Program.{Program, Side, OfInstance, OfClass, OfMeta, same_side, body_at, class_at, name_at}
-use Rattle.st_code.specs.BuiltIns.{RowAt, Section, row_in, is_section, or_else, row_in_sections, built_in_messages, row_at, object_class, class_class, metaclass_class, array_class}
+use Rattle.st_code.specs.Program.{Program, Side, OfInstance, OfClass, same_side, body_at, class_at, name_at}
+use Rattle.st_code.specs.BuiltIns.{RowAt, Section, row_in, is_section, or_else, row_in_sections, built_in_messages, row_at, object_class, class_class, array_class}
 use Rattle.st_code.specs.Messages.{Row, Objects, Classes, Booleans, Numbers, Characters, Transcripts, Strings, Sequences, Collections, Blocks, Exceptions, Loops, Slots, BlockMessage, LoopMessage}
 use Rattle.st_code.specs.Lookup.{Level, level, level_of, superclasses, walk, class_level, Found, UserMethod, BuiltIn, method_at, found_at, found_in, lookup, super_lookup}
 use Rattle.st_collections.specs.Actions.{Action, Gives, Fails, Activates, Misses, Enters, first}
@@ -17,9 +17,9 @@ use Rattle.st_rules.specs.Sends.{row_action, send_action, super_action}
 use Rattle.st_rules.specs.ExceptionRows.{closure_of, value_with, block_at, block_action}
 use Rattle.st_rules.specs.Rules.{closure_for}
 use Rattle.st_rules.specs.Selves.{OnWalk, IsOf, KnowsClasses}
-use Rattle.st_variables.specs.Known.{Among, Under, InFile, AllFull, is_open, KnowsVariables}
-use Rattle.st_variables.proofs.Wholes.{ClosureIs, ClosuresAre, NoObject, NoClass, MessageKeeps, ActionKeeps, not_of_file}
-use Rattle.st_variables.proofs.RowsKeep.{Keeps, if_keeps, fails, gives, objects_keep, classes_keep, booleans_keep, characters_keep, transcripts_keep, strings_keep, sequences_keep, collections_keep, exceptions_keep, loops_keep}
+use Rattle.st_variables.specs.Known.{Among, InFile, AllFull, is_open, KnowsVariables}
+use Rattle.st_variables.proofs.Wholes.{ClosureIs, ClosuresAre, NoObject, NoClass, MessageKeeps, ActionKeeps}
+use Rattle.st_variables.proofs.RowsKeep.{Keeps, if_keeps, objects_keep, classes_keep, booleans_keep, characters_keep, transcripts_keep, strings_keep, sequences_keep, collections_keep, exceptions_keep, loops_keep}
 use Rattle.st_variables.proofs.NumbersKeep.{numbers_keep}
 
 -- ---- messages that shorten no object

@@ -1,5 +1,5 @@
 -- Each variable that an instruction names stands: self is of the class that its code is written in, and has what that class names.
-use Rattle.std.proofs.Common.{◌≡◌, ℕ, ◌+◌, ◌<◌, ◌⊎◌, inl, inr, length, List, [], ◌∷◌, ◌++◌, map, Option, Some, refl, sym, ap, ◌∙◌, subst, arith}
+use Rattle.std.proofs.Common.{◌≡◌, ℕ, ◌+◌, ◌<◌, ◌⊎◌, inl, inr, length, List, [], ◌∷◌, map, Option, Some, refl, sym, ap, ◌∙◌, subst, arith}
 use Rattle.object_heap.specs.declared.value.Value.{Value}
 use Rattle.object_heap.specs.declared.value.Value.TheVariants.{Nil, True, False, Integer, Character, Symbol, Class, Meta, Transcript, Object}
 use Rattle.object_heap.specs.Store.{Store, object_at}
@@ -8,13 +8,13 @@ use Rattle.st_code.specs.declared.instruction.Variable.TheVariants.{Own, Scope, 
 use Rattle.st_code.specs.declared.instruction.Instruction.{Instruction}
 use Rattle.st_code.specs.declared.instruction.Instruction.TheVariants as instruction
 use Rattle.st_code.specs.Program.{Program, Side, OfInstance, OfClass, OfMeta, body_at, class_at}
-use Rattle.st_code.specs.BuiltIns.{undefined_object_class, true_class, false_class, integer_class, character_class, symbol_class, class_class, metaclass_class, transcript_writer_class, object_class, exception_set_class}
+use Rattle.st_code.specs.BuiltIns.{undefined_object_class, true_class, false_class, integer_class, character_class, symbol_class, class_class, metaclass_class, transcript_writer_class, object_class}
 use Rattle.st_code.specs.Compiled.{compile_of}
 use Rattle.st_code.specs.Lookup.{Level, level, level_of, superclasses, walk, class_level}
 use Rattle.st_collections.specs.Kinds.{slots_of}
 use Rattle.st_rules.specs.State.{State}
 use Rattle.st_rules.specs.Machine.{Run, Settle, Begin, Over, Stuck}
-use Rattle.st_rules.specs.Flat.{FlatBody, instruction_at}
+use Rattle.st_rules.specs.Flat.{FlatBody}
 use Rattle.st_rules.specs.Turns.{Top, On, Ended, top_iter, opened_run}
 use Rattle.st_rules.specs.Flattened.{flat_of}
 use Rattle.st_rules.specs.Compilable.{Compilable}
@@ -25,11 +25,11 @@ use Rattle.st_rules.proofs.Writing.{TopTold}
 use Rattle.st_rules.proofs.SharedStands.{fetched_is, AsMany, many}
 use Rattle.st_rules.proofs.NothingMissing.{instructions_at}
 use Rattle.st_rules.proofs.SelvesRun.{TopFits, both}
-use Rattle.st_variables.specs.Known.{Among, Under, InFile, Full, AllFull, SlotKnown, ClassSlotKnown, OwnKnown, Knows, KnowsVariables}
+use Rattle.st_variables.specs.Known.{Under, InFile, AllFull, OwnKnown, Knows, KnowsVariables}
 use Rattle.st_variables.specs.VariablesStand.{Stands, VariableStands, VariableHas, SlotsHave, EachVariableStands, EachObjectIsFull}
 use Rattle.st_variables.proofs.Wholes.{not_of_file, full_at}
 use Rattle.st_variables.proofs.SendsKeep.{in_map, on_either}
-use Rattle.st_variables.proofs.KeepsMachine.{BodyIs, MachKeeps}
+use Rattle.st_variables.proofs.KeepsMachine.{BodyIs}
 use Rattle.st_variables.proofs.KeepsRun.{fetched, TopWhole, whole}
 
 -- ---- levels

@@ -15,7 +15,7 @@ use Rattle.st_collections.specs.SequenceRows.{with_elements, without_element}
 use Rattle.st_collections.specs.Loops.{is_within, visit_at, given_at, next_visit, first_of_message, first_visit}
 use Rattle.st_rules.proofs.ValuesHave.{set_class as class_kept}
 use Rattle.st_variables.specs.Known.{InFile, AllFull, KnowsVariables}
-use Rattle.st_variables.proofs.Wholes.{NoObject, MessageKeeps, LoopKeeps, VisitKeeps, not_of_file, built_full, slot_full, elements_full, removed_full}
+use Rattle.st_variables.proofs.Wholes.{NoObject, MessageKeeps, LoopKeeps, VisitKeeps, built_full, slot_full, elements_full, removed_full}
 
 pub record Visits (p : Program) (s : Store) (v : Visit) : Type 0 where
   pub keeps : VisitKeeps p s v

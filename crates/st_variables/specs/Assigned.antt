@@ -2,7 +2,7 @@
 use Rattle.std.specs.Prelude.{◌≡◌, ℕ, List, [], ◌∷◌, ◌++◌, map, Option, Some, None, true}
 use Rattle.st_code.specs.Texts.{Text}
 use Rattle.st_code.specs.Program.{Side, OfInstance, OfClass}
-use Rattle.st_code.specs.Named.{NamedPrimary, NameOf, SelfName, SuperName, LiteralOf, BlockOf, ParenOf, NamedOperand, OperandOf, NamedOperands, no_operands, more_operands, NamedMessages, none_sent, then_sent, NamedExpr, ExprOf, NamedStatements, no_statements, more_statements, NamedBody, NamedUnit, ClassUnit, GlobalUnit, PoolVariableUnit, InitializerUnit, PoolInitializerUnit, ProgramUnit, MethodUnit, ClassMethodUnit}
+use Rattle.st_code.specs.Named.{NamedPrimary, NameOf, SelfName, SuperName, LiteralOf, BlockOf, ParenOf, NamedOperand, OperandOf, NamedOperands, no_operands, more_operands, NamedMessages, none_sent, then_sent, NamedExpr, ExprOf, NamedStatements, no_statements, more_statements, NamedBody, NamedUnit, ClassUnit, InitializerUnit, PoolInitializerUnit, ProgramUnit, MethodUnit, ClassMethodUnit}
 use Rattle.st_code.specs.Resolved.{Names, Meant, At, Value', meant, class_in}
 use Rattle.st_code.specs.Definitions.{RunLimits, built_in_names, names_of, or_zero, program_of}
 use Rattle.st_code.specs.BuiltIns.{undefined_object_class, built_in_class_rows}

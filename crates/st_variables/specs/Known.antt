@@ -1,5 +1,5 @@
 -- What a program has of the variables that its code names, and of the objects of its classes: a named slot of self for each object of the class, a class instance variable for each class, and no class of the file over a built-in one whose slots are elements.
-use Rattle.std.specs.Prelude.{◌≡◌, ℕ, ◌+◌, ◌<◌, ◌≤◌, ◌⊎◌, Bool, true, false, ◌||◌, nat_eq, nat_le, List, [], ◌∷◌, length, Option, None}
+use Rattle.std.specs.Prelude.{◌≡◌, ℕ, ◌+◌, ◌<◌, ◌≤◌, ◌⊎◌, Bool, true, false, ◌||◌, nat_eq, nat_le, List, [], ◌∷◌, length, None}
 use Rattle.object_heap.specs.declared.value.Value.{Value}
 use Rattle.object_heap.specs.declared.value.Value.TheVariants.{Class, Meta}
 use Rattle.object_heap.specs.Store.{Object as HeapObject}
