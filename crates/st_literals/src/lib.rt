@@ -5,5 +5,7 @@ mod cells;
 mod gather;
 mod make;
 mod opened;
+#[cfg(test)]
+mod tests;
 
 pub use opened::literal_heap;

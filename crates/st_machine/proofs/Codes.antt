@@ -1,52 +1,78 @@
 -- The code with a number, and the classes of a plan.
-use Rattle.std.proofs.Common.{◌≡◌, ℕ, suc, zero, ◌<◌, ◌≤◌, List, [], ◌∷◌, length, get_or, slice_get, drop, map, max, Bool, true, false, nat_lt, if◌then◌else◌, Some, None, refl, sym, ◌∙◌, ap, arith}
+use Rattle.std.specs.Option.{unwrap_or}
+use Rattle.std.proofs.Common.{◌&&◌, ◌^◌, subst, Option, ◌≡◌, ℕ, suc, zero, ◌<◌, ◌≤◌, List, [], ◌∷◌, length, get_or, slice_get, drop, map, max, Bool, true, false, nat_lt, if◌then◌else◌, Some, None, refl, sym, ◌∙◌, ap, arith}
 use Rattle.std.proofs.lemmas.List.{length-map, drop_all}
 use Rattle.std.proofs.lemmas.Bool.Decides.{nat_tests}
-use Rattle.std.proofs.lemmas.Option.{slice_get_past, slice_get-get_or}
+use Rattle.std.proofs.lemmas.Option.{slice_get_past, slice_get-get_or, get_or_from_slice_get, unwrap_or-slice_get}
+use Rattle.std.proofs.lemmas.Bool.{ltb-true}
+use Rattle.object_heap.specs.declared.value.Value.TheVariants.{Nil}
 use Rattle.st_tree.specs.declared.units.Unit.{Unit}
 use Rattle.st_code.specs.declared.instruction.Code.{Code}
 use Rattle.st_code.specs.declared.instruction.Instruction.{Instruction}
-use Rattle.st_code.specs.Compiled.{Compiled, seen_code}
-use Rattle.st_code.specs.Program.{class_at}
+use Rattle.st_code.specs.Compiled.{Compiled, seen_code, compile_of, compiled_from, compiled_body}
+use Rattle.st_code.specs.Program.{Program, Body, InBlock, body_at, class_at}
 use Rattle.st_code.specs.Definitions.{RunLimits, program_of}
 use Rattle.program_image.specs.declared.class.SharedVariable.{SharedVariable}
 use Rattle.program_image.specs.Classes.{seen_variable}
 use Rattle.st_code.specs.Written.{named_units}
 use Rattle.program_image.specs.Spelled.{names_in}
 use Rattle.program_image.specs.Images.{image_program, image_names}
+use Rattle.st_code.specs.Program.{Initializer as Starter}
+use Rattle.st_compiler.specs.declared.units.Initializer.{Initializer}
+use Rattle.st_compiler.specs.Drafted.{seen_initializer}
+use Rattle.st_machine.specs.Plans.{initializer_of, are_short}
 use Rattle.st_rules.specs.Flat.{code_at, no_code, greatest_width}
 
-code_here : (codes : List Code) (n : ℕ) (c : Code) → n < length codes → get_or (map seen_code codes) n no_code ≡ seen_code (get_or codes n c)
-code_here [] n c l = let none : ⊥ = omega (arith, l) in absurd none
-code_here (x ∷ xs) zero c l = refl
-code_here (x ∷ xs) (suc n) c l = code_here xs n c (omega (arith, l))
-
-code_past : (codes : List Code) (n : ℕ) → length codes ≤ n → get_or (map seen_code codes) n no_code ≡ no_code
-code_past [] n l = refl
-code_past (x ∷ xs) zero l = let none : ⊥ = omega (arith, l) in absurd none
-code_past (x ∷ xs) (suc n) l = code_past xs n (omega (arith, l))
-
-pub code_in : (codes : List Code) (n : ℕ) (c : Code) → n < length codes → c ≡ get_or codes n c → code_at (map seen_code codes) n ≡ seen_code c
+pub code-some : (codes : List Compiled) (n : ℕ) (c : Compiled) → Some c ≡ slice_get codes n → code_at codes n ≡ c
 unfolding code_at
-code_in codes n c l is = code_here codes n c l ∙ ap seen_code (sym is)
+code-some codes n c is = get_or_from_slice_get codes n c no_code (sym is)
 
-pub code_out : (codes : List Code) (n : ℕ) → length codes ≤ n → code_at (map seen_code codes) n ≡ no_code
+pub code-none : (codes : List Compiled) (n : ℕ) → None ≡ slice_get codes n → code_at codes n ≡ no_code
 unfolding code_at
-code_out codes n l = code_past codes n l
+code-none codes n is = sym (unwrap_or-slice_get codes n no_code) ∙ ap (λ (o : Option Compiled). unwrap_or o no_code) (sym is)
+
+pub instruction-past : (is : List Instruction) (k : ℕ) → length is ≤ k → None ≡ slice_get is k
+instruction-past is k past = sym (slice_get_past is k past)
+
+pub instruction-here : (is : List Instruction) (k : ℕ) (i : Instruction) → k < length is → i ≡ get_or is k i → Some i ≡ slice_get is k
+instruction-here is k i low there = sym (slice_get-get_or is k i low ∙ ap Some (sym there))
+
+-- ---- codes with few variables
+
+and-left : (a b : Bool) → (a && b) ≡ true → a ≡ true
+and-left true b is = refl
+and-left false b is = is
+
+and-right : (a b : Bool) → (a && b) ≡ true → b ≡ true
+and-right true b is = is
+and-right false b is = absurd (grind (arith, is))
+
+pub short-at : (codes : List Compiled) (n : ℕ) (c : Compiled) → are_short codes ≡ true → Some c ≡ slice_get codes n → length c.captured < 2 ^ 32
+short-at [] n c short is = absurd (none-here n c is)
+  where
+    none-here : (n : ℕ) (c : Compiled) → Some c ≡ slice_get [] n → ⊥
+    none-here n c is = let past : slice_get {X = Compiled} [] n ≡ None = slice_get_past [] n (omega arith) in let bad : Some c ≡ None = is ∙ past in cc
+short-at (x ∷ codes) zero c short is =
+    let same : Some c ≡ Some x = is in
+    let low : length x.captured < 2 ^ 32 = ltb-true (length x.captured) (2 ^ 32) (and-left (nat_lt (length x.captured) (2 ^ 32)) (are_short codes) short) in
+    let e : c ≡ x = cc in
+    let P : Compiled → Type 0 = λ d. length d.captured < 2 ^ 32 in
+    subst P (sym e) low
+short-at (x ∷ codes) (suc n) c short is = short-at codes n c (and-right (nat_lt (length x.captured) (2 ^ 32)) (are_short codes) short) is
+
+-- ---- the initializers
+
+seen-back : (is : List Initializer) → map initializer_of (map seen_initializer is) ≡ is
+seen-back [] = refl
+seen-back (i ∷ is) = ap (λ (js : List Initializer). i ∷ js) (seen-back is)
+
+pub initializers-are : (is : List Initializer) (starters : List Starter) → map seen_initializer is ≡ starters → is ≡ map initializer_of starters
+initializers-are is starters same = sym (seen-back is) ∙ ap (map initializer_of) same
 
 -- the classes of a program are those of its image
 pub class_of_plan : (units : List Unit) (limits : RunLimits) (class : ℕ) → (class_at (program_of (names_in (named_units units)) (named_units units) limits) class).class_slots ≡ (class_at (image_program units) class).class_slots
 unfolding class_at image_program program_of image_names
 class_of_plan units limits class = refl
-
-pub instruction_in : (codes : List Code) (n k : ℕ) (c : Code) (i : Instruction) → n < length codes → c ≡ get_or codes n c → k < length c.instructions.items → i ≡ get_or c.instructions.items k i → Some i ≡ slice_get (code_at (map seen_code codes) n).instructions k
-instruction_in codes n k c i l is lk ik = rw (code_in codes n c l is, slice_get-get_or c.instructions.items k i lk, ← ik) refl
-
-pub instruction_past : (codes : List Code) (n k : ℕ) (c : Code) → n < length codes → c ≡ get_or codes n c → length c.instructions.items ≤ k → None ≡ slice_get (code_at (map seen_code codes) n).instructions k
-instruction_past codes n k c l is lk = rw (code_in codes n c l is, slice_get_past c.instructions.items k lk) refl
-
-pub instruction_out : (codes : List Code) (n k : ℕ) → length codes ≤ n → None ≡ slice_get (code_at (map seen_code codes) n).instructions k
-instruction_out codes n k l = rw (code_out codes n l) refl
 
 pub variables_of : (units : List Unit) (limits : RunLimits) (shared : List SharedVariable) → map seen_variable shared ≡ (image_names units).shared → length shared ≡ (program_of (names_in (named_units units)) (named_units units) limits).variables
 unfolding program_of image_names
@@ -64,3 +90,18 @@ at_least (c ∷ cs) = wider (nat_lt (greatest_width cs) c.width) (greatest_width
 
 pub width_end : (codes : List Code) (i g : ℕ) → length codes ≤ i → 8 ≤ g → g ≡ max g (greatest_width (map seen_code (drop i codes)))
 width_end codes i g l least = rw (drop_all i codes l) (omega (arith, least))
+
+-- ---- parameters
+
+abbrev no_body : Body
+no_body = record { kind = InBlock; class = Nil; parameters = 0; captured = []; outer = None; statements = [] }
+
+from-body : (p : Program) (n : ℕ) (bodies : List Body) (code : ℕ) → (get_or (compiled_from p n bodies) code no_code).parameters ≡ (get_or bodies code no_body).parameters
+unfolding compiled_body
+from-body p n [] code = refl
+from-body p n (b ∷ bodies) zero = refl
+from-body p n (b ∷ bodies) (suc code) = from-body p (suc n) bodies code
+
+pub parameters-are : (p : Program) (code : ℕ) → (code_at (compile_of p) code).parameters ≡ (body_at p code).parameters
+unfolding code_at body_at compile_of
+parameters-are p code = from-body p 0 p.bodies code

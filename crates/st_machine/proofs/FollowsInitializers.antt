@@ -15,7 +15,7 @@ use Rattle.st_rules.specs.Machine.{open_act}
 use Rattle.st_rules.specs.Flat.{FlatBody, flat, code_at}
 use Rattle.st_rules.specs.Runs.{kept_value}
 use Rattle.st_rules.specs.Turns.{Top, On, open_next, top_iter}
-use Rattle.st_machine.specs.declared.loaded.Initializer.{Initializer}
+use Rattle.st_compiler.specs.declared.units.Initializer.{Initializer}
 use Rattle.st_machine.specs.declared.work.Mode.{Mode}
 use Rattle.st_machine.specs.declared.work.Mode.TheVariants as mode
 use Rattle.st_machine.specs.Seen.{Plan, Passed, Seen, passing, with_mode}

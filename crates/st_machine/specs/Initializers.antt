@@ -2,7 +2,7 @@
 use Rattle.std.specs.Prelude.{ℕ, ◌+◌, ◌-◌, [], slice_get, slice_set, Option, Some, None}
 use Rattle.object_heap.specs.declared.value.Value.{Value}
 use Rattle.st_code.specs.Program as program
-use Rattle.st_machine.specs.declared.loaded.Initializer.{Initializer}
+use Rattle.st_compiler.specs.declared.units.Initializer.{Initializer}
 use Rattle.st_machine.specs.declared.work.Mode.TheVariants.{Next, Ended}
 use Rattle.st_machine.specs.declared.work.Ending.TheVariants.{Done}
 use Rattle.st_machine.specs.Seen.{Seen, with_variables, with_mode, passing}

@@ -2,11 +2,11 @@
 use Rattle.std.specs.Prelude.{ℕ, List}
 use Rattle.object_heap.specs.declared.value.Value.{Value}
 use Rattle.object_heap.specs.Charges.{Memory}
+use Rattle.st_base.specs.declared.faults.Limits.{Limits}
 use Rattle.st_tree.specs.declared.units.Unit.{Unit}
 use Rattle.st_code.specs.Compiled.{Compiled}
+use Rattle.st_compiler.specs.declared.units.Initializer.{Initializer}
 use Rattle.st_contexts.specs.Stack.{Stack}
-use Rattle.st_machine.specs.declared.loaded.Initializer.{Initializer}
-use Rattle.st_machine.specs.declared.loaded.Limits.{Limits}
 use Rattle.st_machine.specs.declared.work.Mode.{Mode}
 
 -- the units of a program, the code of its bodies, its initializers in file order, the number of the object with the first text of a trouble, and the limits of its run

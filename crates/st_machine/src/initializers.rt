@@ -2,11 +2,11 @@
 ghost use Rattle.std.specs.Prelude.{◌≡◌};
 ghost use Rattle.st_machine.specs.Initializers.{next_opened, target_by, target_on, kept_at, value_kept};
 
-use crate::loaded::Initializer;
 use crate::machine::Machine;
 use crate::scopes::set_shared;
 use crate::work::{Ending, Mode};
 use object_heap::{Heap, Value};
+use st_compiler::Initializer;
 use st_contexts::Env;
 
 // The variable that takes the value of an initializer.

@@ -2,9 +2,9 @@
 #![tactic(auto)]
 
 mod controls;
+mod facts;
 mod initializers;
 mod instructions;
-mod facts;
 pub mod law;
 mod loaded;
 mod lookups;
@@ -23,7 +23,7 @@ mod signals;
 mod work;
 mod works;
 
-pub use loaded::{Initializer, Limits, Loaded};
+pub use loaded::Loaded;
 pub use machine::Machine;
 pub use running::{Progress, Stats};
 pub use work::{Ending, Mode, Telling, Told, Work};

@@ -1,42 +1,26 @@
 // A program that is ready to run: its image, its code and the limits of its run.
-ghost use Rattle.std.specs.Prelude.{◌≡◌, ◌+◌, ◌<◌, ◌-◌, ◌^◌, [], length, map, slice_get, IfSome};
+ghost use Rattle.std.specs.Prelude.{◌≡◌, ◌+◌, ◌<◌, ◌-◌, ◌^◌, [], get_or, length, map, slice_get, IfOk, IfSome};
+ghost use Rattle.std.specs.Option.{option_map};
 ghost use Rattle.st_rules.specs.Ends.{first_class_slot};
 ghost use Rattle.st_rules.specs.Flat.{code_at, greatest_width};
 ghost use Rattle.st_code.specs.Compiled.{seen_code};
-ghost use Rattle.st_machine.specs.Plans.{plan_of, program_in, AreShort};
+ghost use Rattle.st_code.specs.Program.{body_at};
+ghost use Rattle.program_image.specs.Finding.{unit_codes};
+ghost use Rattle.st_machine.specs.Plans.{plan_of, program_in, are_short};
 ghost use Rattle.st_machine.specs.Signals.{text_in, slots_in};
 
 use object_heap::{Trouble, Value};
 use program_image::Image;
+use st_base::{Limits, OutOfMemory};
 use st_code::{Code, Instruction};
+use st_compiler::{Initializer, Loaded as Compiled};
 use std::marker::Model;
 
-/// The limits of a run: on steps, on the activations that stand at once, and on cells.
-#[derive(Clone, Copy, Debug, PartialEq, Eq)]
-pub struct Limits {
-    pub steps: u64,
-    pub depth: u32,
-    pub cells: u32,
-}
-
-/// An initializer of the program (ANSI NCITS 319, 4.1).
-#[derive(Clone, Copy, Debug, PartialEq, Eq)]
-pub struct Initializer {
-    /// The number of its code.
-    pub code: u32,
-    /// What `self` is in it: the class that it initializes, and else nil.
-    pub receiver: Value,
-    /// The variable of the program that takes its value.
-    pub target: Option<u32>,
-}
-
-/// A program that is ready to run. Contracts see its definitions, its code and its initializers.
+/// A program that is ready to run. Contracts see its definitions, its code and its initializers,
+/// all of which its units and limits determine.
 #[derive(Drop)]
 pub struct Loaded {
-    image: Image,
-    codes: Vec<Code>,
-    initializers: Vec<Initializer>,
-    troubles: u32,
+    program: Compiled,
     limits: Limits,
 }
 
@@ -49,63 +33,78 @@ impl Model for Loaded {
 
     ghost Value = { Plan };
 
-    ghost use Rattle.std.specs.Prelude.{◌+◌, ◌<◌, ◌^◌};
-    ghost use Rattle.st_machine.specs.Plans.{plan_of, AreShort};
+    ghost use Rattle.st_machine.specs.Plans.{plan_of, IsSmall};
 
-    ghost view = { λ l. plan_of l.image l.codes.items l.initializers.items l.troubles l.limits };
+    ghost view = { λ l. plan_of l.program l.limits };
 
-    ghost invariant = { λ l. AreShort l.codes.items × (l.troubles + 24 < 2 ^ 32) };
+    ghost invariant = { λ l. IsSmall (plan_of l.program l.limits) };
 }
 
 impl Loaded {
-    /// A program of this image, whose codes have fewer than 2^32 variables each. The texts of
-    /// troubles are the objects from `troubles` on.
-    pub fn new(
-        image: Image,
-        codes: Vec<Code>,
-        initializers: Vec<Initializer>,
-        troubles: u32,
-        limits: Limits,
-    ) -> Loaded
-        requires short { AreShort codes.items }
-        requires numbered { troubles + 24 < 2 ^ 32 }
-        ensures { result ≡ plan_of image codes.items initializers.items troubles limits }
+    /// A compiled program with the limits of its run. A code of 2^32 variables or more, or so many
+    /// literals, count as want of memory.
+    pub fn new(program: Compiled, limits: Limits) -> Result<Loaded, OutOfMemory>
+        ensures { IfOk result (λ loaded. loaded ≡ plan_of program limits) }
     {
-        Loaded {
-            image,
-            codes,
-            initializers,
-            troubles,
-            limits,
+        if program.literals() > u32::MAX - Trouble::COUNT {
+            return Err(OutOfMemory);
         }
+        if !are_short(program.codes()) {
+            return Err(OutOfMemory);
+        }
+        Ok(Loaded { program, limits })
     }
 
     /// The image of the program.
     pub fn image(&self) -> &Image
         ensures { result.now ≡ self.now.units }
     {
-        &self.image
+        self.program.image()
     }
 
     /// The code of its bodies.
     pub(crate) fn codes(&self) -> &[Code]
         ensures { map seen_code result.now ≡ self.now.codes }
     {
-        &self.codes
+        self.program.codes()
+    }
+
+    // A code by its number. None where there is none.
+    fn code(&self, code: u32) -> Option<&Code>
+        ensures { option_map (λ c. seen_code c.now) result ≡ slice_get self.now.codes code }
+    {
+        self.codes().get(code as usize)
+    }
+
+    /// The number of the code of a unit's body, by the place of the unit in the file.
+    pub(crate) fn unit_code(&self, place: u32) -> u32
+        ensures { result ≡ get_or (unit_codes self.now.units) place 0 }
+    {
+        match self.program.unit_codes().get(place as usize) {
+            Some(code) => *code,
+            None => 0,
+        }
+    }
+
+    /// The initializers in file order.
+    fn initializers(&self) -> &[Initializer]
+        ensures { result.now ≡ self.now.initializers }
+    {
+        self.program.initializers()
     }
 
     /// The text of a trouble.
     pub fn trouble_text(&self, trouble: Trouble) -> Value
         ensures { result ≡ text_in self.now trouble }
     {
-        Value::Object(self.troubles + trouble.place())
+        Value::Object(self.program.literals() + trouble.place())
     }
 
     /// How many slots the instances of a class have.
     pub fn slots(&self, class: u32) -> u32
         ensures { result ≡ slots_in self.now class }
     {
-        self.image.slots(class)
+        self.image().slots(class)
     }
 
     /// How many steps a run may make.
@@ -126,7 +125,7 @@ impl Loaded {
     pub fn variables(&self) -> usize
         ensures { result ≡ (program_in self.now).variables }
     {
-        self.image.shared().len()
+        self.image().shared().len()
     }
 
     /// An initializer by its place in the file.
@@ -134,8 +133,9 @@ impl Loaded {
         ensures initializer { result ≡ slice_get self.now.initializers index }
         ensures counted { IfSome result (λ _. index < 2 ^ 64 - 1) }
     {
-        if index < self.initializers.len() {
-            return Some(self.initializers[index]);
+        let initializers = self.initializers();
+        if index < initializers.len() {
+            return Some(initializers[index]);
         }
         None
     }
@@ -144,7 +144,7 @@ impl Loaded {
     pub fn width(&self) -> u32
         ensures { result ≡ greatest_width self.now.codes }
     {
-        greatest_width(&self.codes)
+        greatest_width(self.codes())
     }
 
     /// The place of the first class instance variable of a class among the program's variables.
@@ -152,7 +152,7 @@ impl Loaded {
         ensures { result ≡ first_class_slot (program_in self.now) receiver }
     {
         match receiver {
-            Value::Class(class) => self.image.class_slots(class),
+            Value::Class(class) => self.image().class_slots(class),
             _ => 0,
         }
     }
@@ -161,11 +161,11 @@ impl Loaded {
     pub fn instruction(&self, code: u32, position: u32) -> Option<Instruction>
         ensures { result ≡ slice_get (code_at self.now.codes code).instructions position }
     {
-        if (code as usize) < self.codes.len() {
-            let code = &self.codes[code as usize];
-            if (position as usize) < code.instructions.len() {
-                return Some(code.instructions[position as usize]);
-            }
+        let Some(code) = self.code(code) else {
+            return None;
+        };
+        if (position as usize) < code.instructions.len() {
+            return Some(code.instructions[position as usize]);
         }
         None
     }
@@ -175,34 +175,55 @@ impl Loaded {
         ensures captured { result.now ≡ (code_at self.now.codes code).captured }
         ensures short { length result.now < 2 ^ 32 }
     {
-        if (code as usize) < self.codes.len() {
-            let code = &self.codes[code as usize];
-            return &code.captured;
+        match self.code(code) {
+            Some(code) => &code.captured,
+            None => &[],
         }
-        &[]
     }
 
     /// The class that a code is written in.
     pub fn class(&self, code: u32) -> Value
         ensures { result ≡ (code_at self.now.codes code).class }
     {
-        if (code as usize) < self.codes.len() {
-            let code = &self.codes[code as usize];
-            return code.class;
+        match self.code(code) {
+            Some(code) => code.class,
+            None => Value::Nil,
         }
-        Value::Nil
     }
 
     /// How many values a block's code takes.
     pub fn parameters(&self, code: u32) -> u32
         ensures { result ≡ (code_at self.now.codes code).parameters }
     {
-        if (code as usize) < self.codes.len() {
-            let code = &self.codes[code as usize];
-            return code.parameters;
+        match self.code(code) {
+            Some(code) => code.parameters,
+            None => 0,
         }
-        0
     }
+}
+
+impl Loaded {
+    /// How many parameters a body of the program has, by its number.
+    pub(crate) fn body_parameters(&self, code: u32) -> u32
+        ensures { result ≡ (body_at (program_in self.now) code).parameters }
+    {
+        match self.program.codes().get(code as usize) {
+            Some(code) => code.parameters,
+            None => 0,
+        }
+    }
+}
+
+// Whether each code has fewer than 2^32 variables.
+fn are_short(codes: &[Code]) -> bool
+    ensures { result ≡ are_short (map seen_code codes.now) }
+{
+    for code in codes {
+        if code.captured.len() > u32::MAX as usize {
+            return false;
+        }
+    }
+    true
 }
 
 // How many operands these codes ask for at most, and at least 8.

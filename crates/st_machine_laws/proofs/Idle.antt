@@ -9,7 +9,7 @@ use Rattle.st_rules.specs.Flat.{code_at}
 use Rattle.st_machine.specs.declared.work.Mode.{Mode}
 use Rattle.st_machine.specs.declared.work.Mode.TheVariants as mode
 use Rattle.st_machine.specs.declared.opening.Opening.{Opening}
-use Rattle.st_machine.specs.declared.loaded.Initializer.{Initializer}
+use Rattle.st_compiler.specs.declared.units.Initializer.{Initializer}
 use Rattle.st_machine.specs.Seen.{Seen, with_memory}
 use Rattle.st_machine.specs.Scopes.{if_room}
 use Rattle.st_machine.specs.Opening.{has_place, stood, stopped, frame_for, captured_in, scope_furnished, furnished_with, furnished, opened, entered, own_furnished}

@@ -22,7 +22,7 @@ use Rattle.st_machine.specs.declared.work.Mode.{Mode}
 use Rattle.st_machine.specs.declared.work.Work.TheVariants as work
 use Rattle.st_machine.specs.Seen.{Seen, with_stack, with_memory}
 use Rattle.st_machine.specs.Plans.{program_in}
-use Rattle.st_machine.specs.Loops.{loop_kept, visit_made, loop_stepped, visited_by, loop_begins, loop_goes_on, iterated_by, iterated, given_by, visited}
+use Rattle.st_machine.specs.Loops.{loop_kept, no_loop, visit_made, loop_stepped, visited_by, loop_begins, loop_goes_on, iterated_by, iterated, given_by, visited}
 use Rattle.st_machine.specs.Followed.{AtLoop}
 use Rattle.st_machine_laws.specs.Holding.{Course, Fits, Holds}
 use Rattle.st_machine_laws.proofs.Blocks.{F, W, numbers, firm_memory, firm_popped, stops, begins, ends, leaves, passes, place, placed, firm_placed, fits_placed, fewer}
@@ -80,8 +80,8 @@ visits_by v s m k n inner ops acts f w h env l =
 iterates_by : {course : Course} → (b : Bool) (l : State) (env : Env) (s : Seen) → F course s → W s → Fits 3 s → env.0 < s.stack.next → Holds course (iterated_by b l env s)
 iterates_by true l env s f w h below =
     let small : env.0 < s.stack.next + 1 = omega (arith, below) in
-    place (Holds _) (λ y. visited_by (first_visit (program_in s.plan) s.memory.store l) env y) (act.Loop (loop_kept l)) env s (numbers 3 s f h)
-    (visits_by (first_visit (program_in s.plan) s.memory.store l) (placed (act.Loop (loop_kept l)) env s) s.mode (act.Loop (loop_kept l)) s.stack.next env [] s.stack.acts (firm_placed (act.Loop (loop_kept l)) env s f below tt) (tt, w) (fits_placed 3 2 (act.Loop (loop_kept l)) env s (omega arith) h) env small)
+    place (Holds _) (λ y. visited_by (first_visit (program_in s.plan) s.memory.store l) env y) (act.Loop no_loop) env s (numbers 3 s f h)
+    (visits_by (first_visit (program_in s.plan) s.memory.store l) (placed (act.Loop no_loop) env s) s.mode (act.Loop no_loop) s.stack.next env [] s.stack.acts (firm_placed (act.Loop no_loop) env s f below tt) (tt, w) (fits_placed 3 2 (act.Loop no_loop) env s (omega arith) h) env small)
     (stops limit.Depth s f w (fewer 3 0 s (omega arith) h))
 iterates_by false l env s f w h below = ends ending.Stranded s f w (fewer 3 0 s (omega arith) h)
 

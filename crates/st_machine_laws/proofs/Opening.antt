@@ -20,7 +20,7 @@ use Rattle.st_machine.specs.declared.work.Mode.TheVariants as mode
 use Rattle.st_machine.specs.declared.work.Ending.TheVariants as ending
 use Rattle.st_machine.specs.declared.work.Work.TheVariants as work
 use Rattle.st_machine.specs.declared.opening.Opening.{Opening}
-use Rattle.st_machine.specs.declared.loaded.Initializer.{Initializer}
+use Rattle.st_compiler.specs.declared.units.Initializer.{Initializer}
 use Rattle.st_machine.specs.Seen.{Plan, Seen, with_memory}
 use Rattle.st_machine.specs.Operands.{but_first, own_pushed}
 use Rattle.st_machine.specs.Plans.{program_in}

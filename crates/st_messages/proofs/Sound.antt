@@ -1,6 +1,5 @@
 -- What the tests of a row's receiver and arguments tell.
 use Rattle.std.proofs.Common.{◌≡◌, ℕ, Bool, true, false, not, ◌&&◌, ◌||◌, List, Option, Some, None, refl, ap, ◌∙◌}
-use Rattle.std.specs.Prelude.{is_some}
 use Rattle.std.specs.Option.{option_map}
 use Rattle.object_heap.specs.declared.value.Value.{Value}
 use Rattle.object_heap.specs.Store.{Store}
@@ -15,8 +14,8 @@ use Rattle.st_collections.specs.Ordered.{IsOrdered, is_ordered}
 use Rattle.st_collections.specs.declared.message.OfOrdered.{OfOrdered}
 use Rattle.st_collections.proofs.Tests.{measured_so, ordered_so, so_measured, so_ordered}
 use Rattle.st_messages.specs.declared.row.MessageRow.{MessageRow}
-use Rattle.st_messages.specs.Rows.{at_once, ordered_row, table_row}
-use Rattle.st_messages.specs.Sent.{IsReady, IsSound, is_changing, is_here, is_ready, is_sound}
+use Rattle.st_messages.specs.Rows.{ordered_row, table_row}
+use Rattle.st_messages.specs.Sent.{IsReady, IsSound, is_changing, is_ready, is_sound}
 
 first_holds : (a b c : Bool) → (a && b && c) ≡ true → a ≡ true
 first_holds true b c e = refl
@@ -84,11 +83,11 @@ ready_done s None r args h = refl
 
 -- ---- what is found, as the code has it
 
-pub here_user : (s : Store) (o : Option ImageFound) (f : ImageFound) (code : ℕ) (r : Value) (args : List Value) → o ≡ Some f → f ≡ ImageFound.User code → true ≡ (is_here (option_map as_row o) && is_ready s (option_map as_row o) r args)
+pub here_user : (s : Store) (o : Option ImageFound) (f : ImageFound) (code : ℕ) (r : Value) (args : List Value) → o ≡ Some f → f ≡ ImageFound.User code → true ≡ is_ready s (option_map as_row o) r args
 unfolding is_ready
 here_user s o f code r args e e' = rw (e, e') refl
 
 pub here_built_in : (s : Store) (o : Option ImageFound) (f : ImageFound) (message : ℕ) (r : Value) (args : List Value) (b : Bool) → o ≡ Some f → f ≡ ImageFound.BuiltIn message
-    → b ≡ (is_some (at_once (numbered_row message)) && is_sound s (numbered_row message) r args) → b ≡ (is_here (option_map as_row o) && is_ready s (option_map as_row o) r args)
+    → b ≡ is_sound s (numbered_row message) r args → b ≡ is_ready s (option_map as_row o) r args
 unfolding is_ready
 here_built_in s o f message r args b e e' h = rw (e, e') h

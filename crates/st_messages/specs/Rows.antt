@@ -1,7 +1,7 @@
 -- The rows of the table of built-in messages that these rows are.
-use Rattle.std.specs.Prelude.{List, map, take, Option, Some, None}
+use Rattle.std.specs.Prelude.{List, map, take}
 use Rattle.st_code.specs.Messages.{ObjectMessage, ClassMessage, BooleanMessage, NumberMessage as NumberRow, TranscriptMessage, BlockMessage, ExceptionMessage, CollectionMessage as CollectionRow, Row, Objects, Classes, Booleans, Numbers, Characters, Transcripts, Strings, Sequences, Collections, Blocks, Exceptions, Loops, Slots}
-use Rattle.st_code.specs.BuiltIns.{BuiltInMessage, numbered_messages}
+use Rattle.st_code.specs.BuiltIns.{numbered_messages}
 use Rattle.st_numbers.specs.declared.message.NumberMessage.{NumberMessage}
 use Rattle.st_collections.specs.declared.message.OfMaking.{OfMaking}
 use Rattle.st_collections.specs.declared.message.OfOrdered.{OfOrdered}
@@ -195,16 +195,6 @@ table_row (MessageRow.Exception m) = Exceptions (exception_row m)
 table_row (MessageRow.Loop kind) = Loops (message_of kind)
 table_row (MessageRow.Slot slot) = Slots slot
 
--- the rows that are here
-abbrev pub at_once : Row → Option Row
-at_once row = Some row
-
-abbrev pub row_at_once : BuiltInMessage → Option Row
-row_at_once m = at_once m.row
-
--- those of all messages, by number; the last are all loops
-unfoldable pub at_once_rows : List (Option Row)
-at_once_rows = map row_at_once numbered_messages
-
-unfoldable pub plain_rows : List (Option Row)
-plain_rows = take 278 (map row_at_once numbered_messages)
+-- the rows before the loops, by number
+unfoldable pub plain_rows : List Row
+plain_rows = take 278 (map (λ m. m.row) numbered_messages)

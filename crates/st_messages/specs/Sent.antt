@@ -1,5 +1,5 @@
 -- What is found for a send, and what is asked of its receiver.
-use Rattle.std.specs.Prelude.{◌≡◌, ℕ, Bool, true, false, not, ◌&&◌, ◌||◌, List, Option, Some, None, is_some}
+use Rattle.std.specs.Prelude.{◌≡◌, ℕ, Bool, true, false, not, ◌&&◌, ◌||◌, List, Option, Some, None}
 use Rattle.object_heap.specs.declared.value.Value.{Value}
 use Rattle.object_heap.specs.Store.{Store}
 use Rattle.st_code.specs.Lookup.{Found, UserMethod, BuiltIn}
@@ -11,7 +11,7 @@ use Rattle.st_collections.specs.Ordered.{IsOrdered, is_ordered}
 use Rattle.st_collections.specs.declared.message.OfOrdered.{OfOrdered}
 use Rattle.st_rules.specs.Sends.{row_action}
 use Rattle.st_messages.specs.declared.row.MessageRow.{MessageRow}
-use Rattle.st_messages.specs.Rows.{at_once, ordered_row}
+use Rattle.st_messages.specs.Rows.{ordered_row}
 
 -- what is found does this
 abbrev pub found_does : Program → Store → Option Found → ℕ → Value → List Value → Action
@@ -19,11 +19,9 @@ found_does p s (Some (UserMethod code)) selector r args = Enters code r args
 found_does p s (Some (BuiltIn row)) selector r args = row_action p s row r args
 found_does p s None selector r args = Misses selector r args
 
--- it is done here
+-- each message that is found is done here
 abbrev pub is_here : Option Found → Bool
-is_here None = true
-is_here (Some (UserMethod code)) = true
-is_here (Some (BuiltIn row)) = is_some (at_once row)
+is_here found = true
 
 -- a row that changes an OrderedCollection
 abbrev pub is_changing : Row → Bool

@@ -6,8 +6,8 @@ ghost use Rattle.st_code.specs.BuiltIns.{numbered_row};
 ghost use Rattle.st_code.specs.Lookup.{level_of, lookup, super_lookup};
 ghost use Rattle.st_rules.specs.Sends.{row_action, send_action, super_action};
 ghost use Rattle.st_messages.specs.Replies.{is_lost, memory_after, seen, told_by, unless_lost};
-ghost use Rattle.st_messages.specs.Rows.{at_once, making_of, table_row};
-ghost use Rattle.st_messages.specs.Sent.{IsSound, found_does, is_changing, is_here, is_ready, is_sound};
+ghost use Rattle.st_messages.specs.Rows.{making_of, table_row};
+ghost use Rattle.st_messages.specs.Sent.{IsSound, found_does, is_changing, is_ready, is_sound};
 
 use crate::arguments::first_of;
 use crate::blocks::block_message;
@@ -144,7 +144,7 @@ pub fn row_message<H: Heap, P: ProgramFacts>(
     None
 }
 
-// What the built-in message with this number does at once. None where that isn't done here.
+// What the built-in message with this number does at once.
 fn built_in_message<H: Heap, P: ProgramFacts>(
     heap: &mut H,
     program: &P,
@@ -157,15 +157,12 @@ fn built_in_message<H: Heap, P: ProgramFacts>(
     ensures reserved { IfSome result (λ reply. IsTrue H.reserved → is_lost reply ≡ false) }
     ensures rest { IfNone result (H.meaning heap.new ≡ H.meaning heap.old) }
     ensures literals { H.literal_room heap.new ≡ H.literal_room heap.old }
-    ensures here { is_some result ≡ (is_some (at_once (numbered_row message)) && is_sound (H.meaning heap.old).store (numbered_row message) receiver arguments.now) }
+    ensures here { is_some result ≡ is_sound (H.meaning heap.old).store (numbered_row message) receiver arguments.now }
 {
-    match row_of(message) {
-        Some(row) => row_message(heap, program, row, receiver, arguments),
-        None => None,
-    }
+    row_message(heap, program, row_of(message), receiver, arguments)
 }
 
-// What is found does at once. None where that isn't done here.
+// What is found does at once.
 fn found_message<H: Heap, P: ProgramFacts>(
     heap: &mut H,
     program: &P,
@@ -179,7 +176,7 @@ fn found_message<H: Heap, P: ProgramFacts>(
     ensures reserved { IfSome result (λ reply. IsTrue H.reserved → is_lost reply ≡ false) }
     ensures rest { IfNone result (H.meaning heap.new ≡ H.meaning heap.old) }
     ensures literals { H.literal_room heap.new ≡ H.literal_room heap.old }
-    ensures here { is_some result ≡ (is_here (option_map as_row found) && is_ready (H.meaning heap.old).store (option_map as_row found) receiver arguments.now) }
+    ensures here { is_some result ≡ is_ready (H.meaning heap.old).store (option_map as_row found) receiver arguments.now }
 {
     match found {
         None => Some(Reply::Misses(selector, receiver)),
@@ -204,7 +201,7 @@ pub fn send_message<H: Heap, P: ProgramFacts>(
     ensures reserved { IfSome result (λ reply. IsTrue H.reserved → is_lost reply ≡ false) }
     ensures rest { IfNone result (H.meaning heap.new ≡ H.meaning heap.old) }
     ensures literals { H.literal_room heap.new ≡ H.literal_room heap.old }
-    ensures here { let found = lookup (P.meaning program.now) (level_of (H.meaning heap.old).store receiver) selector in is_some result ≡ (is_here found && is_ready (H.meaning heap.old).store found receiver arguments.now) }
+    ensures here { is_some result ≡ is_ready (H.meaning heap.old).store (lookup (P.meaning program.now) (level_of (H.meaning heap.old).store receiver) selector) receiver arguments.now }
 {
     let level = level_now(heap, receiver);
     let found = program.find(level.side, level.class, selector);
@@ -225,7 +222,7 @@ pub fn super_message<H: Heap, P: ProgramFacts>(
     ensures reserved { IfSome result (λ reply. IsTrue H.reserved → is_lost reply ≡ false) }
     ensures rest { IfNone result (H.meaning heap.new ≡ H.meaning heap.old) }
     ensures literals { H.literal_room heap.new ≡ H.literal_room heap.old }
-    ensures here { let found = super_lookup (P.meaning program.now) class selector in is_some result ≡ (is_here found && is_ready (H.meaning heap.old).store found receiver arguments.now) }
+    ensures here { is_some result ≡ is_ready (H.meaning heap.old).store (super_lookup (P.meaning program.now) class selector) receiver arguments.now }
 {
     let found = program.find_above(class, selector);
     found_message(heap, program, found, selector, receiver, arguments)

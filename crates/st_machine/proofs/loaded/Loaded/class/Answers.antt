@@ -1,10 +1,10 @@
-use Rattle.std.proofs.Common.{◌<◌, ◌≤◌, length, sym, ap, arith}
-use Rattle.st_code.specs.Compiled.{Compiled}
-use Rattle.st_machine.proofs.Codes.{code_in, code_out}
+use Rattle.std.proofs.Common.{ap, sym}
+use Rattle.st_code.specs.Compiled.{Compiled, seen_code}
+use Rattle.st_machine.proofs.Codes.{code-some, code-none}
 use Rattle.st_machine.proofs.loaded.Loaded.class.Goals as goal
 
-pub returns-then-code-len : goal.returns-then-code-len
-returns-then-code-len c = rw (← c.self.view_is) (sym (ap (λ (x : Compiled). x.class) (code_in c.self.inside.codes.items c.args.code c.index-code.result.now (let l : c.args.code < length c.self.inside.codes.items = omega (arith, c.len.ensures, c.self.inside.codes.ok.0, c.if-code-len.true) in l) c.index-code.ensures)))
+pub returns-in-Some : goal.returns-in-Some
+returns-in-Some c = sym (ap (λ (x : Compiled). x.class) (code-some c.args.self.now.codes c.args.code (seen_code c.in-Some.code.now) c.in-Some.ensures))
 
-pub returns : goal.returns
-returns c = rw (← c.self.view_is) (sym (ap (λ (x : Compiled). x.class) (code_out c.self.inside.codes.items c.args.code (let l : length c.self.inside.codes.items ≤ c.args.code = omega (arith, c.len.ensures, c.self.inside.codes.ok.0, c.if-code-len.false) in l))))
+pub returns-in-None : goal.returns-in-None
+returns-in-None c = sym (ap (λ (x : Compiled). x.class) (code-none c.args.self.now.codes c.args.code c.in-None.ensures))

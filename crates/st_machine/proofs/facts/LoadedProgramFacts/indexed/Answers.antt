@@ -1,0 +1,9 @@
+use Rattle.std.proofs.Common.{List, ap, ◌∙◌}
+use Rattle.st_tree.specs.declared.units.Unit.{Unit}
+use Rattle.st_code.specs.Program.{ClassRow, class_at}
+use Rattle.program_image.specs.Images.{image_program}
+use Rattle.st_machine.proofs.Known.{classes-are}
+use Rattle.st_machine.proofs.facts.LoadedProgramFacts.indexed.Goals as goal
+
+pub returns : goal.returns
+returns c = c.indexed.ensures ∙ ap (λ (us : List Unit). (class_at (image_program us) c.args.class).indexed) c.image.ensures ∙ ap (λ (r : ClassRow). r.indexed) (classes-are c.args.self.now c.args.class)

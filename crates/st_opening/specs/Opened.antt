@@ -1,0 +1,20 @@
+-- A machine at the beginning of a program's run.
+use Rattle.std.specs.Prelude.{◌≡◌, List, []}
+use Rattle.st_base.specs.declared.faults.Limits.{Limits}
+use Rattle.st_tree.specs.declared.units.Unit.{Unit}
+use Rattle.st_rules.specs.Flattened.{flat_of}
+use Rattle.st_rules.specs.Turns.{opened_run}
+use Rattle.st_literals.specs.Numbered.{first_memory}
+use Rattle.st_machine.specs.Followed.{Ready}
+use Rattle.st_machine.specs.Meaning.{top_of}
+use Rattle.st_machine.specs.Plans.{plan_of, program_from}
+use Rattle.st_machine.specs.Seen.{Seen}
+use Rattle.st_machine.specs.Steps.{first_seen}
+
+abbrev pub opened_seen : List Unit → Limits → Seen
+opened_seen units limits = first_seen (plan_of units limits) (first_memory (program_from units limits))
+
+-- it can make its first step, and stands for the flat machine at the beginning of the program's run
+pub record IsOpened (units : List Unit) (limits : Limits) : Type 0 where
+  pub ready : Ready (opened_seen units limits)
+  pub begins : top_of [] [] (opened_seen units limits) ≡ opened_run (flat_of (program_from units limits)) (program_from units limits)
