@@ -1,0 +1,16 @@
+pub mod Blocks
+pub mod Signals
+pub mod Searches
+pub mod Settling
+pub mod Opening
+pub mod Instructions
+pub mod Controls
+pub mod Loops
+pub mod Performing
+pub mod Steps
+pub mod Idle
+pub mod Moments
+pub mod Gone
+pub mod WholeRun
+pub mod Stopping
+pub mod StepLaw

@@ -1,0 +1,4 @@
+pub mod Holding
+pub mod StaysReady
+pub mod Moments
+pub mod WholeRun
