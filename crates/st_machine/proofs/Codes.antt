@@ -1,6 +1,7 @@
 -- The code with a number, and the classes of a plan.
-use Rattle.std.specs.Option.{unwrap_or}
-use Rattle.std.proofs.Common.{◌&&◌, ◌^◌, subst, Option, ◌≡◌, ℕ, suc, zero, ◌<◌, ◌≤◌, List, [], ◌∷◌, length, get_or, slice_get, drop, map, max, Bool, true, false, nat_lt, if◌then◌else◌, Some, None, refl, sym, ◌∙◌, ap, arith}
+use Rattle.std.specs.Borrow.{Bor}
+use Rattle.std.specs.Option.{option_map, unwrap_or}
+use Rattle.std.proofs.Common.{◌&&◌, ◌^◌, subst, Option, IfSome, ◌≡◌, ℕ, suc, zero, ◌<◌, ◌≤◌, List, [], ◌∷◌, length, get_or, slice_get, drop, map, max, Bool, true, false, nat_lt, if◌then◌else◌, Some, None, refl, sym, ◌∙◌, ap, arith}
 use Rattle.std.proofs.lemmas.List.{length-map, drop_all}
 use Rattle.std.proofs.lemmas.Bool.Decides.{nat_tests}
 use Rattle.std.proofs.lemmas.Option.{slice_get_past, slice_get-get_or, get_or_from_slice_get, unwrap_or-slice_get}
@@ -60,6 +61,13 @@ short-at (x ∷ codes) zero c short is =
     subst P (sym e) low
 short-at (x ∷ codes) (suc n) c short is = short-at codes n c (and-right (nat_lt (length x.captured) (2 ^ 32)) (are_short codes) short) is
 
+pub if-short : (o : Option (Bor Code)) (codes : List Compiled) (n : ℕ) → option_map (λ c. seen_code c.now) o ≡ slice_get codes n → are_short codes ≡ true → IfSome o (λ c. length c.now.captured.items < 2 ^ 32)
+if-short None codes n is short = tt
+if-short (Some c) codes n is short = short-at codes n (seen_code c.now) short is
+
+pub nothing-at : (k : ℕ) → slice_get no_code.instructions k ≡ None
+nothing-at k = slice_get_past {X = Instruction} [] k (omega arith)
+
 -- ---- the initializers
 
 seen-back : (is : List Initializer) → map initializer_of (map seen_initializer is) ≡ is
@@ -105,3 +113,9 @@ from-body p n (b ∷ bodies) (suc code) = from-body p (suc n) bodies code
 pub parameters-are : (p : Program) (code : ℕ) → (code_at (compile_of p) code).parameters ≡ (body_at p code).parameters
 unfolding code_at body_at compile_of
 parameters-are p code = from-body p 0 p.bodies code
+
+pub body-some : (p : Program) (code : ℕ) (c : Compiled) → Some c ≡ slice_get (compile_of p) code → c.parameters ≡ (body_at p code).parameters
+body-some p code c is = sym (ap (λ (x : Compiled). x.parameters) (code-some (compile_of p) code c is)) ∙ parameters-are p code
+
+pub body-none : (p : Program) (code : ℕ) → None ≡ slice_get (compile_of p) code → 0 ≡ (body_at p code).parameters
+body-none p code is = sym (ap (λ (x : Compiled). x.parameters) (code-none (compile_of p) code is)) ∙ parameters-are p code

@@ -1,15 +1,15 @@
 -- What a program finds for `super`, and what its image says of its classes.
 use Rattle.std.proofs.Common.{◌≡◌, ℕ, ◌<◌, List, [], ◌∷◌, ◌++◌, map, drop, get_or, Option, Some, None, refl, ap, sym, ◌∙◌}
 use Rattle.std.specs.Option.{option_map}
+use Rattle.object_heap.specs.declared.value.Value.{Value}
+use Rattle.object_heap.specs.declared.value.Value.TheVariants as value
 use Rattle.object_heap.specs.declared.value.Value.TheVariants.{Class, Meta}
 use Rattle.st_code.specs.Texts.{Text}
 use Rattle.st_code.specs.Program.{Program, ClassRow, OfInstance, OfClass, class_at, number_of}
 use Rattle.st_code.specs.Resolved.{number_or_last}
 use Rattle.st_code.specs.Definitions.{program_of}
-use Rattle.st_code.specs.Lookup.{Level, level, superclasses, walk, found_in, lookup, super_lookup, UserMethod}
-use Rattle.program_image.specs.Images.{image_names, image_program, as_row}
-use Rattle.program_image.specs.declared.table.Found.{Found as Row}
-use Rattle.program_image.specs.declared.table.Found.TheVariants as row
+use Rattle.st_code.specs.Lookup.{Level, level, superclasses, walk, found_in, lookup, super_lookup}
+use Rattle.program_image.specs.Images.{image_names, image_program}
 use Rattle.program_image.specs.Finding.{program_of_image, coded, unit_codes}
 use Rattle.program_image.proofs.FindingAlike.{finds_alike}
 use Rattle.program_image.proofs.FirstClasses.{class-superclass-is, object-superclass-is}
@@ -68,10 +68,16 @@ module _ (plan : Plan) (class selector : ℕ) where
       ap (λ (cs : List ℕ). found_in (program_in plan) (drop 1 (map (level OfClass) cs ++ level OfInstance 20 ∷ level OfInstance 0 ∷ [])) selector) (walk-alone is)
       ∙ sym (ap (λ (cs : List ℕ). found_in (program_in plan) (map (level OfInstance) cs) selector) (above-class plan))
 
--- ---- a method by the number of its code
-
-pub coded-user : (codes : List ℕ) (place code : ℕ) (f : Option Row) → code ≡ get_or codes place 0 → f ≡ Some (row.User place) → option_map as_row (Some (row.User code)) ≡ option_map (coded codes) (option_map as_row f)
-coded-user codes place code f is there = ap (λ k. Some (UserMethod k)) is ∙ sym (ap (λ (o : Option Row). option_map (coded codes) (option_map as_row o)) there)
-
-pub coded-built-in : (codes : List ℕ) (number : ℕ) (f : Option Row) → f ≡ Some (row.BuiltIn number) → option_map as_row (Some (row.BuiltIn number)) ≡ option_map (coded codes) (option_map as_row f)
-coded-built-in codes number f there = sym (ap (λ (o : Option Row). option_map (coded codes) (option_map as_row o)) there)
+-- a body of no class looks up behind `UndefinedObject`
+pub super-other : (p : Program) (v : Value) (selector : ℕ) → ((x : ℕ) → v ≡ value.Class x → ⊥) → ((x : ℕ) → v ≡ value.Meta x → ⊥) → super_lookup p (value.Class 1) selector ≡ super_lookup p v selector
+unfolding super_lookup
+super-other p value.Nil selector c m = refl
+super-other p value.True selector c m = refl
+super-other p value.False selector c m = refl
+super-other p value.Transcript selector c m = refl
+super-other p (value.Integer n) selector c m = refl
+super-other p (value.Character byte) selector c m = refl
+super-other p (value.Symbol name) selector c m = refl
+super-other p (value.Class class) selector c m = absurd (c class refl)
+super-other p (value.Meta class) selector c m = absurd (m class refl)
+super-other p (value.Object number) selector c m = refl

@@ -28,12 +28,20 @@ impl Loaded {
     }
 
     // A method by the number of its code in place of that of its unit.
-    fn coded(&self, found: Option<Found>) -> Option<Found>
+    fn coded(&self, found: Found) -> Found
+        ensures { as_row result ≡ coded (unit_codes self.now.units) (as_row found) }
+    {
+        match found {
+            Found::User(place) => Found::User(self.unit_code(place)),
+            Found::BuiltIn(number) => Found::BuiltIn(number),
+        }
+    }
+
+    fn coded_found(&self, found: Option<Found>) -> Option<Found>
         ensures { option_map as_row result ≡ option_map (coded (unit_codes self.now.units)) (option_map as_row found) }
     {
         match found {
-            Some(Found::User(place)) => Some(Found::User(self.unit_code(place))),
-            Some(Found::BuiltIn(number)) => Some(Found::BuiltIn(number)),
+            Some(found) => Some(self.coded(found)),
             None => None,
         }
     }
@@ -42,7 +50,7 @@ impl Loaded {
     fn found(&self, side: Side, class: u32, selector: u32) -> Option<Found>
         ensures { option_map as_row result ≡ lookup (program_in self.now) (level (on_side side) class) selector }
     {
-        self.coded(self.image().lookup(side, class, selector))
+        self.coded_found(self.image().lookup(side, class, selector))
     }
 
     // What the classes above a class have for its instances.

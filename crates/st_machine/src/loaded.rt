@@ -71,9 +71,10 @@ impl Loaded {
 
     // A code by its number. None where there is none.
     fn code(&self, code: u32) -> Option<&Code>
-        ensures { option_map (λ c. seen_code c.now) result ≡ slice_get self.now.codes code }
+        ensures code { option_map (λ c. seen_code c.now) result ≡ slice_get self.now.codes code }
+        ensures short { IfSome result (λ c. length c.now.captured.items < 2 ^ 32) }
     {
-        self.codes().get(code as usize)
+        code_in(self.program.codes(), code)
     }
 
     /// The number of the code of a unit's body, by the place of the unit in the file.
@@ -161,13 +162,10 @@ impl Loaded {
     pub fn instruction(&self, code: u32, position: u32) -> Option<Instruction>
         ensures { result ≡ slice_get (code_at self.now.codes code).instructions position }
     {
-        let Some(code) = self.code(code) else {
-            return None;
-        };
-        if (position as usize) < code.instructions.len() {
-            return Some(code.instructions[position as usize]);
+        match self.code(code) {
+            Some(code) => instruction_in(code, position),
+            None => None,
         }
-        None
     }
 
     /// Of each variable of a code, whether a block inside its body names it.
@@ -207,11 +205,28 @@ impl Loaded {
     pub(crate) fn body_parameters(&self, code: u32) -> u32
         ensures { result ≡ (body_at (program_in self.now) code).parameters }
     {
-        match self.program.codes().get(code as usize) {
+        match code_in(self.program.codes(), code) {
             Some(code) => code.parameters,
             None => 0,
         }
     }
+}
+
+// A code by its number. None where there is none.
+fn code_in(codes: &[Code], code: u32) -> Option<&Code>
+    ensures { option_map (λ c. seen_code c.now) result ≡ slice_get (map seen_code codes.now) code }
+{
+    codes.get(code as usize)
+}
+
+// The instruction at a position.
+fn instruction_in(code: &Code, position: u32) -> Option<Instruction>
+    ensures { result ≡ slice_get code.now.instructions.items position }
+{
+    if (position as usize) < code.instructions.len() {
+        return Some(code.instructions[position as usize]);
+    }
+    None
 }
 
 // Whether each code has fewer than 2^32 variables.

@@ -1,2 +1,2 @@
 pub mod Rooms
-pub mod Opened
+pub mod Readiness

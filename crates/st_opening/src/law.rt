@@ -6,7 +6,6 @@ ghost use Rattle.st_opening.specs.Opened.{IsOpened};
 
 /// A machine that is opened is ready for its first step, and stands for the flat machine at the
 /// beginning of the program's run.
-#[tactic(auto, using(crate::proofs::Opened::is_opened))]
 pub fn an_opened_machine_is_ready()
     ensures { (units : List Unit) (limits : Limits) → IsOpened units limits }
 {}

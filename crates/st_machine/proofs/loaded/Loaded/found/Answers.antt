@@ -9,6 +9,6 @@ use Rattle.st_machine.proofs.loaded.Loaded.found.Goals as goal
 
 pub returns : goal.returns
 returns c =
-    c.coded.ensures
+    c.coded_found.ensures
     ∙ ap (λ (o : Option Found). option_map (coded (unit_codes c.args.self.now.units)) o) (c.lookup.ensures.row ∙ ap (λ (us : List Unit). lookup (image_program us) (level (on_side c.args.side) c.args.class) c.args.selector) c.image.ensures)
     ∙ found-alike c.args.self.now (level (on_side c.args.side) c.args.class) c.args.selector

@@ -1,0 +1,21 @@
+use Rattle.std.proofs.Common.{◌≡◌, List, IfOk, refl, ap, ◌∙◌, subst}
+use Rattle.object_heap.specs.Charges.{Memory}
+use Rattle.st_tree.specs.declared.units.Unit.{Unit}
+use Rattle.program_image.specs.Finding.{program_of_image}
+use Rattle.st_literals.specs.Numbered.{first_memory}
+use Rattle.st_machine.specs.Plans.{limits_of, plan_of, program_from}
+use Rattle.st_machine.specs.Seen.{Plan, Seen}
+use Rattle.st_machine.specs.Steps.{first_seen}
+use Rattle.st_opening.specs.Opened.{opened_seen}
+use Rattle.st_opening.proofs.opened.open.Goals as goal
+
+pub returns : goal.returns
+unfolding program_of_image
+returns c =
+    let units : c.in_ok-program.program ≡ c.args.definition.units = c.in_ok-program.ensures ∙ c.in_ok-build.ensures in
+    let loaded : c.in_ok-loaded.loaded ≡ plan_of c.args.definition.units c.args.limits = c.in_ok-loaded.ensures ∙ ap (λ (us : List Unit). plan_of us c.args.limits) units in
+    let memory : c.in_ok-heap.heap.memory ≡ first_memory (program_from c.args.definition.units c.args.limits) =
+    c.in_ok-heap.ensures (limits_of c.args.limits) refl ∙ ap (λ (us : List Unit). first_memory (program_of_image us (limits_of c.args.limits))) (c.image.ensures ∙ units) in
+    let opened : first_seen c.in_ok-loaded.loaded c.in_ok-heap.heap.memory ≡ opened_seen c.args.definition.units c.args.limits =
+    ap (λ (p : Plan). first_seen p c.in_ok-heap.heap.memory) loaded ∙ ap (λ (m : Memory). first_seen (plan_of c.args.definition.units c.args.limits) m) memory in
+    subst (λ (s : Seen). IfOk c.open.result (λ m. m ≡ s)) opened c.open.ensures
