@@ -58,3 +58,23 @@ default_action_is = refl
 pub is_resumable_is : IsSelector (codes "isResumable")
 unfolding messages
 is_resumable_is = refl
+
+pub equal_is : IsSelector (codes "=")
+unfolding messages
+equal_is = refl
+
+pub not_understood_is : IsSelector (codes "doesNotUnderstand:")
+unfolding messages
+not_understood_is = refl
+
+pub value_is : IsSelector (codes "value")
+unfolding messages
+value_is = refl
+
+pub value_of_is : IsSelector (codes "value:")
+unfolding messages
+value_of_is = refl
+
+pub value_of_two_is : IsSelector (codes "value:value:")
+unfolding messages
+value_of_two_is = refl

@@ -28,7 +28,7 @@ use Rattle.st_machine.specs.declared.work.Mode.{Mode}
 use Rattle.st_machine.specs.Seen.{Plan, Passed, Seen, with_memory}
 use Rattle.st_machine.specs.Plans.{program_in}
 use Rattle.st_machine.specs.Signals.{text_in, if_object, exception_made, slots_put}
-use Rattle.st_machine.specs.Loops.{loop_begins, loop_kept}
+use Rattle.st_machine.specs.Loops.{loop_begins, no_loop}
 use Rattle.st_machine.specs.Performing.{message_slots, message_sent, performed, performed_told, performed_written}
 use Rattle.st_machine.specs.Sound.{is_fit}
 use Rattle.st_machine.specs.Meaning.{top_of, state_of, acts_of, env_of, events_of, target_in, behind}
@@ -102,8 +102,8 @@ module _ (plan : Plan) (next depth width : ℕ) (vars : List Value) (passed : Pa
     unfolding used with_arguments
     misses_by selector r args mem true e one c c' =
         let made : exception_made array_class (length args) args mem ≡ with_object array_class args mem = object_memory array_class args mem c in
-        let then = with_object array_class args mem in
-        record { count = 0; counted = refl; comes = rw (made, c, c', append-nil tr, append-nil ev) (message_by selector r (length mem.store.objects) then (nat_le (then.used + 3) then.limit) one refl (cells_same then 3 (nat_le (then.used + 3) then.limit) e refl)) }
+        let after = with_object array_class args mem in
+        record { count = 0; counted = refl; comes = rw (made, c, c', append-nil tr, append-nil ev) (message_by selector r (length mem.store.objects) after (nat_le (after.used + 3) after.limit) one refl (cells_same after 3 (nat_le (after.used + 3) after.limit) e refl)) }
     misses_by selector r args mem false e one c c' =
         let made : exception_made array_class (length args) args mem ≡ mem = no_object_memory array_class args mem c in
         record { count = 0; counted = refl; comes = rw (made, c, c', append-nil tr, append-nil ev) refl }
@@ -139,7 +139,7 @@ module _ (plan : Plan) (next depth width : ℕ) (vars : List Value) (passed : Pa
     iterates_by : (l : LoopState) (mem : Memory) (b : Bool) → mem.limit ≡ p.cell_limit → loop_begins mem.store l ≡ true → nat_le (length acts + 1) depth ≡ b → nat_le (length acts + 1) p.depth_limit ≡ b → Performs (Iterates l) mem
     unfolding stood
     iterates_by l mem true e begins d d' =
-        record { count = 1; counted = rw (marks_length acts, d') refl; comes = rw (begins, other_number next 18446744073709551615 numbers, marks_length acts, d, d', append-nil tr, append-nil ev) (visits plan (next + 1) depth width vars passed steps (max deepest (length acts + 1)) inits instrs tr ev acts next env [] m below (first_visit p mem.store l) (act.Loop (loop_kept l)) mem e (small_fits (first_visit p mem.store l) mem passed (first_visit_small p mem.store l (short l mem begins)).small room)) }
+        record { count = 1; counted = rw (marks_length acts, d') refl; comes = rw (begins, other_number next 18446744073709551615 numbers, marks_length acts, d, d', append-nil tr, append-nil ev) (visits plan (next + 1) depth width vars passed steps (max deepest (length acts + 1)) inits instrs tr ev acts next env [] m below (first_visit p mem.store l) (act.Loop no_loop) mem e (small_fits (first_visit p mem.store l) mem passed (first_visit_small p mem.store l (short l mem begins)).small room)) }
     iterates_by l mem false e begins d d' = record { count = 0; counted = refl; comes = rw (begins, other_number next 18446744073709551615 numbers, marks_length acts, d, d', append-nil tr, append-nil ev) refl }
 
     iterates : (l : LoopState) (mem : Memory) → mem.limit ≡ p.cell_limit → loop_begins mem.store l ≡ true → Performs (Iterates l) mem

@@ -21,4 +21,6 @@ pub mod FollowsSending
 pub mod Follows
 pub mod Gone
 pub mod Replied
+pub mod GreatestRoom
+pub mod PassedOn
 pub mod Known

@@ -2,14 +2,18 @@
 use Rattle.std.proofs.Common.{◌≡◌, ◌≤◌, ◌&&◌, List, [], ◌∷◌, length, nat_le, Bool, true, false, refl, arith}
 use Rattle.std.proofs.lemmas.Bool.Decides.{nat_tests}
 use Rattle.object_heap.specs.declared.value.Value.{Value}
+use Rattle.object_heap.specs.Store.{Store}
 use Rattle.st_code.specs.Messages.{LoopMessage}
+use Rattle.st_code.specs.Program.{Program}
 use Rattle.st_collections.specs.Actions.{LoopState as State}
 use Rattle.st_loops.specs.declared.kind.LoopKind.{LoopKind}
 use Rattle.st_loops.specs.declared.state.Arguments.{Arguments}
 use Rattle.st_loops.specs.declared.state.LoopState.{LoopState}
 use Rattle.st_loops.specs.Kinds.{message_of}
 use Rattle.st_loops.specs.States.{state_of, values_of}
-use Rattle.st_machine.specs.Loops.{kind_of, arguments_kept, loop_kept}
+use Rattle.st_loops.specs.Starts.{started}
+use Rattle.st_loops.specs.Tests.{may_begin}
+use Rattle.st_machine.specs.Loops.{kind_of, arguments_kept, loop_kept, loop_begins}
 use Rattle.st_machine.specs.Meaning.{loop_of}
 use Rattle.st_machine.proofs.SmallVisits.{is_short}
 
@@ -119,3 +123,40 @@ values_few Arguments.None = omega arith
 values_few (Arguments.One u) = omega arith
 values_few (Arguments.Two u v) = omega arith
 values_few (Arguments.Three u v w) = omega arith
+
+-- ---- a loop that begins
+
+pub begins_same : (p : Program) (s : Store) (k : LoopKind) (r : Value) (args : List Value) → loop_begins s (started p s (message_of k) r args) ≡ (nat_le (length args) 3 && may_begin s (message_of k) r)
+begins_same p s LoopKind.WhileTrue r args = refl
+begins_same p s LoopKind.WhileFalse r args = refl
+begins_same p s LoopKind.TimesRepeat r args = refl
+begins_same p s LoopKind.ToDo r args = refl
+begins_same p s LoopKind.ToByDo r args = refl
+begins_same p s LoopKind.Do r args = refl
+begins_same p s LoopKind.DoSeparatedBy r args = refl
+begins_same p s LoopKind.ReverseDo r args = refl
+begins_same p s LoopKind.KeysAndValuesDo r args = refl
+begins_same p s LoopKind.KeysDo r args = refl
+begins_same p s LoopKind.InjectInto r args = refl
+begins_same p s LoopKind.Detect r args = refl
+begins_same p s LoopKind.DetectIfNone r args = refl
+begins_same p s LoopKind.AnySatisfy r args = refl
+begins_same p s LoopKind.AllSatisfy r args = refl
+begins_same p s LoopKind.Collect r args = refl
+begins_same p s LoopKind.Select r args = refl
+begins_same p s LoopKind.Reject r args = refl
+begins_same p s LoopKind.Includes r args = refl
+begins_same p s LoopKind.OccurrencesOf r args = refl
+begins_same p s LoopKind.IndexOf r args = refl
+begins_same p s LoopKind.AddToSet r args = refl
+begins_same p s LoopKind.Remove r args = refl
+begins_same p s LoopKind.RemoveIfAbsent r args = refl
+begins_same p s LoopKind.At r args = refl
+begins_same p s LoopKind.AtIfAbsent r args = refl
+begins_same p s LoopKind.AtPut r args = refl
+begins_same p s LoopKind.AtIfAbsentPut r args = refl
+begins_same p s LoopKind.IncludesKey r args = refl
+begins_same p s LoopKind.RemoveKey r args = refl
+begins_same p s LoopKind.RemoveKeyIfAbsent r args = refl
+begins_same p s LoopKind.EqualElements r args = refl
+begins_same p s LoopKind.NotEqual r args = refl

@@ -1,13 +1,14 @@
 -- What a reply says is said of the memory that it leaves, and the machine goes on with it as with the action.
-use Rattle.std.proofs.Common.{◌≡◌, ℕ, ◌+◌, List, [], Bool, true, false, if◌then◌else◌, refl, ap, sym, ◌∙◌}
+use Rattle.std.proofs.Common.{◌≡◌, ℕ, ◌+◌, List, [], Bool, true, false, if◌then◌else◌, refl, ap, sym, subst, ◌∙◌}
 use Rattle.object_heap.specs.declared.value.Value.{Value}
 use Rattle.object_heap.specs.Store.{Store}
 use Rattle.object_heap.specs.Charges.{Memory}
 use Rattle.st_code.specs.Program.{Program}
 use Rattle.st_collections.specs.declared.answer.Built.{Built}
-use Rattle.st_collections.specs.Actions.{Action, Gives, Changes, Makes, Fails, PassesIntegers, DividesByZero, Writes, Begins, Activates, Sends, Misses, Enters, Guards, Ensures, Curtails, Iterates, Raises, RaisesNew, Controls, Terminates}
+use Rattle.st_collections.specs.Actions.{Action, Gives, Changes, Makes, Fails, PassesIntegers, DividesByZero, Writes, Begins, Activates, Sends, Misses, Enters, Guards, Ensures, Curtails, Iterates, Raises, RaisesNew, Controls, Terminates, Visit}
 use Rattle.st_collections.specs.Answers.{charge_told}
 use Rattle.st_contexts.specs.declared.activation.Env.{Env}
+use Rattle.st_loops.specs.Steps.{Seen as Step, Out, told_of, memory_after as visit_memory, is_out, unless_out}
 use Rattle.st_messages.specs.declared.reply.Reply.{Reply}
 use Rattle.st_messages.specs.declared.reply.Written.{Written}
 use Rattle.st_messages.specs.Replies.{Seen as Said, Answered, Raised, GoesOn, seen, told_by, memory_after, is_lost, unless_lost, written_text}
@@ -16,6 +17,7 @@ use Rattle.st_machine.specs.declared.work.Told.TheVariants.{Nothing}
 use Rattle.st_machine.specs.Seen.{Seen, with_memory}
 use Rattle.st_machine.specs.Plans.{program_in}
 use Rattle.st_machine.specs.Opening.{has_step, stepped}
+use Rattle.st_machine.specs.Loops.{loop_stepped, visited_by}
 use Rattle.st_machine.specs.Performing.{said, said_told, said_written, reply_written}
 use Rattle.st_machine.specs.Sending.{acted, acted_told, acted_written}
 
@@ -131,26 +133,56 @@ written_there (Reply.Terminates v) s s' env e = refl
 
 -- ---- a send, as the code has it
 
-module _ (s : Seen) (m : Memory) (a : Action) (sound : Bool) (r : Reply) (step : has_step s ≡ true) (done : true ≡ sound) (kept : is_lost r ≡ false) (left : m ≡ unless_lost r s.memory (memory_after a s.memory)) (says : seen (program_in s.plan) s.memory.store s.passed.values r ≡ unless_lost r (seen (program_in s.plan) s.memory.store s.passed.values r) (told_by a s.memory)) where
-  left_so : m ≡ memory_after a s.memory
-  left_so = rw kept at left
+module _ (s : Seen) (m : Memory) (r : Reply) (does : Program → Store → List Value → Action) (done : Program → Store → List Value → Bool) where
+  abbrev here : Action
+  here = does (program_in s.plan) s.memory.store s.passed.values
 
-  says_so : seen (program_in s.plan) s.memory.store s.passed.values r ≡ told_by a s.memory
-  says_so = rw kept at says
-
-  later : seen (program_in s.plan) m.store s.passed.values r ≡ told_by a s.memory
-  later = ap (λ (n : Memory). seen (program_in s.plan) n.store s.passed.values r) left_so ∙ seen_later (program_in s.plan) s.passed.values a s.memory r says_so
+  abbrev sound : Bool
+  sound = done (program_in s.plan) s.memory.store s.passed.values
 
   abbrev onwards : Seen
   onwards = record s { steps = s.steps + 1 }
 
-  pub says_on : (env : Env) → said (seen (program_in s.plan) m.store s.passed.values r) env (with_memory (stepped s) m) ≡ acted sound a env s
-  says_on env =
-      rw (step, ← done)
-      (ap (λ (x : Said). said x env (with_memory onwards m)) later ∙ ap (λ (n : Memory). said (told_by a s.memory) env (with_memory onwards n)) left_so)
+  -- what a reply of the machine that made its step brings
+  pub record Does (t : Seen) : Type 0 where
+    pub says : (env : Env) → said (seen (program_in t.plan) m.store t.passed.values r) env (with_memory t m) ≡ acted sound here env s
+    pub tells : said_told (seen (program_in t.plan) m.store t.passed.values r) (with_memory t m) ≡ acted_told sound here s
+    pub writes : said_written (seen (program_in t.plan) m.store t.passed.values r) ≡ acted_written sound here s
 
-  pub says_told : said_told (seen (program_in s.plan) m.store s.passed.values r) (with_memory (stepped s) m) ≡ acted_told sound a s
-  says_told = rw (step, ← done) (ap (λ (x : Said). said_told x (with_memory onwards m)) later ∙ said_told_same (told_by a s.memory) onwards m)
+  abbrev Claim : Seen → Type 0
+  Claim t =
+      (args : List Value) → args ≡ t.passed.values → true ≡ done (program_in t.plan) t.memory.store args → is_lost r ≡ false
+      → m ≡ unless_lost r t.memory (memory_after (does (program_in t.plan) t.memory.store args) t.memory)
+      → seen (program_in t.plan) t.memory.store args r ≡ unless_lost r (seen (program_in t.plan) t.memory.store args r) (told_by (does (program_in t.plan) t.memory.store args) t.memory)
+      → Does t
 
-  pub says_written : said_written (seen (program_in s.plan) m.store s.passed.values r) ≡ acted_written sound a s
-  says_written = rw (step, ← done) (ap said_written later)
+  module _ (step : has_step s ≡ true) where
+    goes_on : true ≡ sound → m ≡ memory_after here s.memory → seen (program_in s.plan) s.memory.store s.passed.values r ≡ told_by here s.memory → Does onwards
+    goes_on is left told =
+        let later : seen (program_in s.plan) m.store s.passed.values r ≡ told_by here s.memory =
+        ap (λ (n : Memory). seen (program_in s.plan) n.store s.passed.values r) left ∙ seen_later (program_in s.plan) s.passed.values here s.memory r told in
+        record {
+          says = λ env. rw (step, ← is) (ap (λ (x : Said). said x env (with_memory onwards m)) later ∙ ap (λ (n : Memory). said (told_by here s.memory) env (with_memory onwards n)) left);
+          tells = rw (step, ← is) (ap (λ (x : Said). said_told x (with_memory onwards m)) later ∙ said_told_same (told_by here s.memory) onwards m);
+          writes = rw (step, ← is) (ap said_written later);
+        }
+
+    claim : Claim onwards
+    claim args same is kept left told =
+        let is' : true ≡ sound = rw same at is in
+        let left' : m ≡ memory_after here s.memory = rw (kept, same) at left in
+        let told' : seen (program_in s.plan) s.memory.store s.passed.values r ≡ told_by here s.memory = rw (kept, same) at told in
+        goes_on is' left' told'
+
+    pub does_so : (t : Seen) → t ≡ stepped s → Claim t
+    does_so t e =
+        let made : stepped s ≡ onwards = rw step refl in
+        subst Claim (sym (e ∙ made)) claim
+
+-- ---- a visit, as the code has it
+
+pub visited_so : (s : Seen) (v : Visit) (env : Env) (m other : Memory) (st : Step) → is_out st ≡ false → m ≡ unless_out st other (visit_memory v s.memory) → st ≡ unless_out st Out (told_of v s.memory) → loop_stepped st env (with_memory s m) ≡ visited_by v env s
+visited_so s v env m other st inside left told =
+    let left_here : m ≡ visit_memory v s.memory = rw inside at left in
+    let told_here : st ≡ told_of v s.memory = rw inside at told in
+    ap (λ (n : Memory). loop_stepped st env (with_memory s n)) left_here ∙ ap (λ (x : Step). loop_stepped x env (with_memory s (visit_memory v s.memory))) told_here

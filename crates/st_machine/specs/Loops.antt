@@ -1,6 +1,7 @@
 -- Loops as activations keep them, and what a step of a loop makes of the machine. Source: ANSI 5.4.3, 5.7.
-use Rattle.std.specs.Prelude.{ℕ, Bool, true, false, ◌&&◌, List, [], ◌∷◌, length, nat_le, if◌then◌else◌}
+use Rattle.std.specs.Prelude.{ℕ, Bool, true, false, ◌&&◌, List, [], ◌∷◌, length, nat_le, pos, if◌then◌else◌}
 use Rattle.object_heap.specs.declared.value.Value.{Value}
+use Rattle.object_heap.specs.declared.value.Value.TheVariants.{Nil}
 use Rattle.object_heap.specs.declared.trouble.Trouble.TheVariants.{NotFound}
 use Rattle.object_heap.specs.Store.{Store}
 use Rattle.object_heap.specs.Charges.{Memory}
@@ -75,6 +76,10 @@ arguments_kept (u ∷ v ∷ w ∷ vs) = Arguments.Three u v w
 unfoldable pub loop_kept : State → LoopState
 loop_kept l = record { kind = kind_of l.message; receiver = l.receiver; arguments = arguments_kept l.arguments; index = l.index; made = l.made; visited = l.visited; aside = l.aside }
 
+-- what stands while a loop makes its first visit
+abbrev pub no_loop : LoopState
+no_loop = record { kind = LoopKind.WhileTrue; receiver = Nil; arguments = Arguments.None; index = pos 0; made = Nil; visited = Nil; aside = false }
+
 -- ---- a step of the loop that stands innermost
 
 abbrev pub standing_so : State → Seen → Seen
@@ -108,7 +113,7 @@ loop_goes_on s l = may_begin s l.message l.receiver && may_keep s l.message l
 
 abbrev pub iterated_by : Bool → State → Env → Seen → Seen
 iterated_by true l env s =
-    if has_place s then visited_by (first_visit (program_in s.plan) s.memory.store l) env (stood (act.Loop (loop_kept l)) env s) else stopped limit.Depth s
+    if has_place s then visited_by (first_visit (program_in s.plan) s.memory.store l) env (stood (act.Loop no_loop) env s) else stopped limit.Depth s
 iterated_by false l env s = ended ending.Stranded s
 
 -- a loop stands and makes its first visit

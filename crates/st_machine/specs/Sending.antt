@@ -1,5 +1,5 @@
 -- Sends. Source: ANSI 3.3.
-use Rattle.std.specs.Prelude.{ℕ, Bool, true, false, ◌&&◌, [], length, Option, if◌then◌else◌}
+use Rattle.std.specs.Prelude.{ℕ, Bool, true, false, [], length, Option, if◌then◌else◌}
 use Rattle.object_heap.specs.declared.value.Value.{Value}
 use Rattle.st_code.specs.Texts.{Text}
 use Rattle.st_code.specs.Lookup.{Found, level_of, lookup, super_lookup}
@@ -8,7 +8,7 @@ use Rattle.st_contexts.specs.declared.activation.Env.{Env}
 use Rattle.st_contexts.specs.declared.outcome.Limit.TheVariants as limit
 use Rattle.st_rules.specs.Rules.{value_selector}
 use Rattle.st_rules.specs.Sends.{send_action, super_action}
-use Rattle.st_messages.specs.Sent.{is_here, is_ready}
+use Rattle.st_messages.specs.Sent.{is_ready}
 use Rattle.st_machine.specs.declared.work.Ending.TheVariants as ending
 use Rattle.st_machine.specs.declared.work.Told.{Told}
 use Rattle.st_machine.specs.declared.work.Told.TheVariants.{Nothing}
@@ -46,7 +46,7 @@ value_in s = value_selector (program_in s.plan) (length s.passed.values)
 
 -- what is found is done for this receiver with the values that are passed on
 abbrev pub is_done : Option Found → Value → Seen → Bool
-is_done found receiver s = is_here found && is_ready s.memory.store found receiver s.passed.values
+is_done found receiver s = is_ready s.memory.store found receiver s.passed.values
 
 abbrev pub send_is_sound : ℕ → Value → Seen → Bool
 send_is_sound selector receiver s = is_done (lookup (program_in s.plan) (level_of s.memory.store receiver) selector) receiver s

@@ -7,7 +7,7 @@ ghost use Rattle.st_loops.specs.States.{state_of, values_of};
 ghost use Rattle.st_loops.specs.Steps.{seen};
 ghost use Rattle.st_collections.specs.Items.{IsMeasured};
 ghost use Rattle.st_collections.specs.Loops.{first_visit};
-ghost use Rattle.st_machine.specs.Loops.{standing_so, loop_stepped, visited_by, loop_goes_on, iterated, visited};
+ghost use Rattle.st_machine.specs.Loops.{no_loop, standing_so, loop_stepped, visited_by, loop_goes_on, iterated, visited};
 ghost use Rattle.st_machine.specs.Opening.{beginning};
 ghost use Rattle.st_machine.specs.Passing.{passing_on};
 ghost use Rattle.st_machine.specs.Plans.{program_in};
@@ -19,11 +19,13 @@ use object_heap::{Heap, Trouble, Value};
 use st_contexts::{Activation, Env, Limit, Outcome};
 use st_loops::{Arguments, LoopKind, LoopState, LoopStep, advance, begin, is_kept, is_receiver};
 
-// A loop as it stands before its first visit.
-fn placeholder(kind: LoopKind, receiver: Value) -> LoopState {
+// What stands while a loop makes its first visit.
+fn no_loop() -> LoopState
+    ensures { result ≡ no_loop }
+{
     LoopState {
-        kind,
-        receiver,
+        kind: LoopKind::WhileTrue,
+        receiver: Value::Nil,
         arguments: Arguments::None,
         index: 0,
         made: Value::Nil,
@@ -136,6 +138,7 @@ impl<H: Heap> Machine<H> {
     }
 
     /// A loop stands and makes its first visit.
+    #[tactic(auto, using(crate::proofs::LoopStates::begins_same))]
     pub(crate) fn iterate(&mut self, kind: LoopKind, receiver: Value, env: Env) -> Told
         ensures iterated { self.new ≡ iterated (started (program_in self.old.plan) self.old.memory.store (message_of kind) receiver self.old.passed.values) env self.old }
         ensures told { result ≡ Told.Nothing }
@@ -144,7 +147,7 @@ impl<H: Heap> Machine<H> {
             self.strand();
             return Told::Nothing;
         }
-        match self.stand(Activation::Loop(placeholder(kind, receiver)), env) {
+        match self.stand(Activation::Loop(no_loop()), env) {
             Some(_) => self.visit_first(kind, receiver, env),
             None => self.settle_with(Outcome::Stop(Limit::Depth)),
         }

@@ -1,5 +1,5 @@
 // The operands of the innermost activation, and the values that a work passes on.
-ghost use Rattle.std.specs.Prelude.{◌≡◌, ◌+◌, ◌≤◌, ◌<◌, ◌^◌, [], ◌∷◌, ◌++◌, length, reverse, min, get_or, IfOk, vec_capacity};
+ghost use Rattle.std.specs.Prelude.{◌≡◌, ◌+◌, ◌≤◌, ◌<◌, ◌^◌, true, [], ◌∷◌, ◌++◌, length, reverse, min, get_or, IfOk, vec_capacity};
 ghost use Rattle.object_heap.specs.Store.{object_at};
 ghost use Rattle.st_collections.specs.Kinds.{slots_of};
 ghost use Rattle.st_messages.specs.Replies.{behind, passed_on};
@@ -38,6 +38,7 @@ fn pop_into(contexts: &mut Contexts, values: &mut Vec<Value>, count: u32)
     requires { length values.old.items + count ≤ vec_capacity values.old }
     ensures stack { contexts.new ≡ (taken count contexts.old (reverse values.old.items)).stack }
     ensures values { reverse values.new.items ≡ (taken count contexts.old (reverse values.old.items)).values }
+    ensures counted { length values.new.items ≡ length values.old.items + count }
     ensures capacity { vec_capacity values.old ≤ vec_capacity values.new }
 {
     let mut left = count;
@@ -173,7 +174,11 @@ impl Passed {
     pub fn count(&self) -> u32
         ensures { result ≡ length self.now.values }
     {
-        self.values.len() as u32
+        let count = self.values.len();
+        if count < self.room as usize {
+            return count as u32;
+        }
+        self.room
     }
 
     /// Passes on these values, where there is room. Answers whether there is.
@@ -189,9 +194,18 @@ impl Passed {
         true
     }
 
+    // Whether there is room for the values that are passed on. There is.
+    fn fits(&self) -> bool
+        ensures { result ≡ fits_in self.now.values self.now }
+    {
+        self.values.len() <= self.room as usize
+    }
+
     // Passes on all values but the first.
+    #[tactic(auto, using(crate::proofs::PassedOn::behind_fits))]
     fn drop_first(&mut self)
-        ensures { self.new ≡ passing (behind self.old.values) self.old }
+        ensures dropped { self.new ≡ passing (behind self.old.values) self.old }
+        ensures fits { fits_in (behind self.old.values) self.old ≡ true }
     {
         if !self.values.is_empty() {
             self.values.remove(0);
@@ -199,6 +213,7 @@ impl Passed {
     }
 
     // Passes on the slots of an object, where there is room.
+    #[tactic(auto, unfolding(st_collections::specs::Kinds::slots_of))]
     fn set_slots<H: Heap>(&mut self, heap: &H, value: Value) -> bool
         ensures put { self.new ≡ put_on (slots_of (H.meaning heap.now).store value) self.old }
         ensures fits { result ≡ fits_in (slots_of (H.meaning heap.now).store value) self.old }
@@ -223,7 +238,7 @@ impl Passed {
     {
         match named {
             Named::None => self.set(&[]),
-            Named::All => true,
+            Named::All => self.fits(),
             Named::Behind => {
                 self.drop_first();
                 true

@@ -12,8 +12,8 @@ use crate::operands::deliver;
 use crate::work::{Ending, Mode, Told, Work};
 use object_heap::{Heap, Trouble, Value};
 use st_contexts::{
-    Activation, Contexts, Env, Event, Frame, Limit, Numbered, Outcome, Purpose, SearchState, Target,
-    Turn, Wait,
+    Activation, Contexts, Env, Event, Frame, Limit, Numbered, Outcome, Purpose, SearchState,
+    Target, Turn, Wait,
 };
 use st_loops::LoopState;
 

@@ -7,6 +7,7 @@ pub loop-left-preserved : goal.loop-left-preserved
 loop-left-preserved c = record {
   same = taken_step c.loop-left.left c.loop-left.contexts c.pop_value.new.self c.pop_value.result c.loop-left.values.items c.push.new.self.items c.loop-left-test.true c.pop_value.ensures.popped c.pop_value.ensures.value c.in-Ok.ensures.items ∙ c.loop-left.invariant.same;
   room = rw c.in-Ok.ensures.items (grind (arith, c.loop-left.invariant.room, c.loop-left-test.true, c.in-Ok.ensures.capacity));
+  counted = rw c.in-Ok.ensures.items (grind (arith, c.loop-left.invariant.counted, c.loop-left-test.true));
   grows = grind (arith, c.loop-left.invariant.grows, c.in-Ok.ensures.capacity);
 }
 
