@@ -33,14 +33,16 @@ is_opened units limits =
         initializers = seen-again (program_from units limits).initializers;
         troubles = refl;
         roomy = codes-are-roomy (program_from units limits);
-        space = omega (arith, least);
-        passes = refl;
+        space = least;
+        passes = omega arith;
+        arguments = refl;
         depth = refl;
         cells = refl;
         within = omega arith;
         numbers = omega arith;
         falling = tt;
         next = refl;
+        sound = tt;
       };
       begins = refl;
     }

@@ -1,7 +1,9 @@
 -- A machine at the beginning of a program's run.
-use Rattle.std.specs.Prelude.{◌≡◌, List, []}
+use Rattle.std.specs.Prelude.{◌≡◌, ℕ, ◌-◌, ◌<◌, ◌^◌, Bool, true, ◌&&◌, List, [], ◌∷◌, length, nat_lt}
 use Rattle.st_base.specs.declared.faults.Limits.{Limits}
 use Rattle.st_tree.specs.declared.units.Unit.{Unit}
+use Rattle.st_code.specs.Compiled.{Compiled}
+use Rattle.st_rules.specs.Flat.{code_at}
 use Rattle.st_rules.specs.Flattened.{flat_of}
 use Rattle.st_rules.specs.Turns.{opened_run}
 use Rattle.st_literals.specs.Numbered.{first_memory}
@@ -18,3 +20,11 @@ opened_seen units limits = first_seen (plan_of units limits) (first_memory (prog
 pub record IsOpened (units : List Unit) (limits : Limits) : Type 0 where
   pub ready : Ready (opened_seen units limits)
   pub begins : top_of [] [] (opened_seen units limits) ≡ opened_run (flat_of (program_from units limits)) (program_from units limits)
+
+-- the positions of each code and the one behind them fit 32 bits
+abbrev pub are_numbered : List Compiled → Bool
+are_numbered [] = true
+are_numbered (c ∷ codes) = nat_lt (length c.instructions) (2 ^ 32 - 1) && are_numbered codes
+
+pub record HavePositions (codes : List Compiled) : Type 0 where
+  pub lengths : (code : ℕ) → length (code_at codes code).instructions < 2 ^ 32 - 1

@@ -1,7 +1,7 @@
 // A small program that is opened and run.
 use crate::opened::open;
 use sqlite_items::Items;
-use st_base::{Limits, OutOfMemory, Text};
+use st_base::{Limits, MemorySink, OutOfMemory, Text};
 use st_machine::{Ending, Progress};
 use st_tree::tree::{Body, Expr, Literal, Operand, Primary, Statement};
 use st_tree::units::{Definition, Unit, UnitKind, UnitList};
@@ -38,7 +38,8 @@ fn a_program_runs_to_its_end(rt: HostRuntime) -> Result<(), Fail> {
         cells: 0,
     };
     let mut machine = open(rt.alloc(), definition(rt.alloc())?, limits)?;
-    assert_eq!(rt; machine.go(40), Progress::Ended(Ending::Done));
+    let mut out = MemorySink::new(rt.alloc(), 9, Vec::new(rt.alloc()))?;
+    assert_eq!(rt; machine.go(40, &mut out), Progress::Ended(Ending::Done));
     assert_eq!(rt; machine.stats().instructions, 2);
     Ok(())
 }

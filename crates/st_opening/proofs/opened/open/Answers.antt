@@ -1,4 +1,5 @@
-use Rattle.std.proofs.Common.{◌≡◌, List, IfOk, refl, ap, ◌∙◌, subst}
+use Rattle.std.proofs.Common.{◌≡◌, List, true, map, IfOk, refl, ap, sym, ◌∙◌, subst}
+use Rattle.st_code.specs.Compiled.{Compiled, compile_of, seen_code}
 use Rattle.object_heap.specs.Charges.{Memory}
 use Rattle.st_tree.specs.declared.units.Unit.{Unit}
 use Rattle.program_image.specs.Finding.{program_of_image}
@@ -6,12 +7,13 @@ use Rattle.st_literals.specs.Numbered.{first_memory}
 use Rattle.st_machine.specs.Plans.{limits_of, plan_of, program_from}
 use Rattle.st_machine.specs.Seen.{Plan, Seen}
 use Rattle.st_machine.specs.Steps.{first_seen}
-use Rattle.st_opening.specs.Opened.{opened_seen}
+use Rattle.st_opening.specs.Opened.{opened_seen, are_numbered, HavePositions}
+use Rattle.st_opening.proofs.Positions.{have-positions, if-any}
 use Rattle.st_opening.proofs.opened.open.Goals as goal
 
-pub returns : goal.returns
+pub returns-clause-opened : goal.returns-clause-opened
 unfolding program_of_image
-returns c =
+returns-clause-opened c =
     let units : c.in_ok-program.program ≡ c.args.definition.units = c.in_ok-program.ensures ∙ c.in_ok-build.ensures in
     let loaded : c.in_ok-loaded.loaded ≡ plan_of c.args.definition.units c.args.limits = c.in_ok-loaded.ensures ∙ ap (λ (us : List Unit). plan_of us c.args.limits) units in
     let memory : c.in_ok-heap.heap.memory ≡ first_memory (program_from c.args.definition.units c.args.limits) =
@@ -19,3 +21,11 @@ returns c =
     let opened : first_seen c.in_ok-loaded.loaded c.in_ok-heap.heap.memory ≡ opened_seen c.args.definition.units c.args.limits =
     ap (λ (p : Plan). first_seen p c.in_ok-heap.heap.memory) loaded ∙ ap (λ (m : Memory). first_seen (plan_of c.args.definition.units c.args.limits) m) memory in
     subst (λ (s : Seen). IfOk c.open.result (λ m. m ≡ s)) opened c.open.ensures
+
+pub returns-clause-positions : goal.returns-clause-positions
+unfolding program_of_image
+returns-clause-positions c =
+    let units : c.in_ok-program.program ≡ c.args.definition.units = c.in_ok-program.ensures ∙ c.in_ok-build.ensures in
+    let codes : map seen_code c.codes.result.now ≡ compile_of (program_from c.args.definition.units c.args.limits) = c.codes.ensures (limits_of c.args.limits) ∙ ap (λ (us : List Unit). compile_of (program_from us c.args.limits)) units in
+    let numbered : are_numbered (compile_of (program_from c.args.definition.units c.args.limits)) ≡ true = sym (ap (λ (cs : List Compiled). are_numbered cs) codes) ∙ sym c.are_numbered.ensures ∙ c.if-not-are_numbered.false in
+    if-any c.open.result (HavePositions (compile_of (program_from c.args.definition.units c.args.limits))) (have-positions (compile_of (program_from c.args.definition.units c.args.limits)) numbered)
