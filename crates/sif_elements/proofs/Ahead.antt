@@ -25,7 +25,7 @@ use Rattle.sif_elements.proofs.Counts.{units_of}
 abbrev pub behind_turn : Turn → (Progress → Answer) → Answer
 behind_turn (Onward q) later = later q
 behind_turn (Ends a) later = a
-behind_turn Fails later = Refuse 0 0 reason.Unbuilt
+behind_turn Fails later = Refuse 0 0 reason.Syntax
 
 -- what is answered behind an answer of the reader
 abbrev pub by_answer : Progress → chunks.Answer → Answer

@@ -2,7 +2,7 @@
 use Rattle.std.specs.Prelude.{◌≡◌, ℕ, Bool, true, false, List, [], ◌∷◌, ◌++◌, Option, None, Some, IfSome, codes, decimal, if◌then◌else◌}
 use Rattle.st_base.specs.declared.faults.Place.{Place}
 use Rattle.st_base.specs.declared.faults.Reason.{Reason}
-use Rattle.st_base.specs.declared.faults.Reason.TheVariants.{MissingVersion, MissingText, Unfinished, ElementTooLong, InputTooLong, BadCharacter, OpenString, OpenComment, BadRadix, IntegerTooLarge, FloatOutside, Syntax, TooDeep, Unbuilt, DuplicateClass, DuplicateName, UnknownSuperclass, IndexedClash, DuplicateVariable, UnknownPool, UnknownClass, ReplacesBuiltin, DuplicateMethod, UnknownTarget, SecondInitializer, UndeclaredName, NotAssignable}
+use Rattle.st_base.specs.declared.faults.Reason.TheVariants.{MissingVersion, MissingText, Unfinished, ElementTooLong, InputTooLong, BadCharacter, OpenString, OpenComment, BadRadix, IntegerTooLarge, FloatOutside, Syntax, TooDeep, DuplicateClass, DuplicateName, UnknownSuperclass, IndexedClash, DuplicateVariable, UnknownPool, UnknownClass, ReplacesBuiltin, DuplicateMethod, UnknownTarget, SecondInitializer, UndeclaredName, NotAssignable}
 use Rattle.st_tree.specs.declared.units.Unit as unit
 use Rattle.sif_elements.specs.Reading.{Answer, Read, Refuse}
 use Rattle.sif_elements.specs.Steps.{reading}
@@ -46,7 +46,6 @@ reason_word IntegerTooLarge = codes "IntegerTooLarge"
 reason_word FloatOutside = codes "FloatOutside"
 reason_word Syntax = codes "Syntax"
 reason_word TooDeep = codes "TooDeep"
-reason_word Unbuilt = codes "Unbuilt"
 reason_word DuplicateClass = codes "DuplicateClass"
 reason_word DuplicateName = codes "DuplicateName"
 reason_word UnknownSuperclass = codes "UnknownSuperclass"
@@ -90,10 +89,14 @@ refused place why = record { output = []; report = refused_line place why; statu
 abbrev pub place_at : ℕ → ℕ → Place
 place_at element byte = record { element = element; byte = byte }
 
+-- a program that can't yet be run is refused at this element
+abbrev pub unbuilt : ℕ → Outcome
+unbuilt element = record { output = []; report = codes "stx: refused element " ++ decimal element ++ codes " byte 0 Unbuilt\n"; status = 1 }
+
 -- a program is run, or refused where it can't yet be
 abbrev pub runs : Program → Outcome
 runs (Shows out) = done out
-runs (UnbuiltAt element) = refused (place_at element 0) Unbuilt
+runs (UnbuiltAt element) = unbuilt element
 
 -- what a task makes of the units of a file
 abbrev pub of_units : Task → List unit.Unit → Outcome

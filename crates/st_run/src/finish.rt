@@ -5,10 +5,10 @@ ghost use Rattle.st_base.specs.Streams.{Rose, GainsPrefix};
 ghost use Rattle.st_tree.specs.Numbers.{elements_in};
 ghost use Rattle.sif_export.specs.ExportText.{export_text};
 ghost use Rattle.st_checks.specs.StaticRules.{first_break};
-ghost use Rattle.st_run.specs.Commands.{Outcome, usage_line, done, refused, of_rules, of_units, does};
+ghost use Rattle.st_run.specs.Commands.{Outcome, usage_line, done, refused, unbuilt, of_rules, of_units, does};
 ghost use Rattle.st_run.specs.Headline.{Finishes, IsReported};
 
-use crate::report::{OUT_OF_MEMORY, USAGE, refusal};
+use crate::report::{OUT_OF_MEMORY, USAGE, refusal, unbuilt};
 use crate::tasks::{Written, task_output};
 use sif_export::export;
 use st_base::{Place, Reason, Sink, put_all};
@@ -53,6 +53,16 @@ pub(crate) fn refuse<E: Sink>(alloc: Global, place: Place, reason: Reason, repor
     }
 }
 
+// Reports that the program can't yet be run.
+fn refuse_unbuilt<E: Sink>(alloc: Global, element: u32, report: &mut E) -> u8
+    ensures { (out : Option (List ℕ)) → Finishes (unbuilt element) ⊥ (Rose (E.faults report.old) (E.faults report.new)) out out (E.written report.old) (E.written report.new) result }
+{
+    match unbuilt(alloc, element) {
+        Ok(line) => tell(report, line.as_slice(), 1),
+        Err(_) => report_want_of_memory(report),
+    }
+}
+
 // Writes the output, and answers the status 0, or that of a write fault.
 fn write_out<K: Sink>(out: &mut K, bytes: &[u8]) -> u8
     ensures { (report : Option (List ℕ)) → Finishes (done bytes.now) (Rose (K.faults out.old) (K.faults out.new)) ⊥ (K.written out.old) (K.written out.new) report report result }
@@ -87,9 +97,7 @@ fn perform<K: Sink, E: Sink>(
     match task_output(alloc, task, definition) {
         Ok(Written::Output(bytes)) => write_out(out, bytes.as_slice()),
         Ok(Written::Exported) => write_text(out, definition),
-        Ok(Written::UnbuiltAt(element)) => {
-            refuse(alloc, Place { element, byte: 0 }, Reason::Unbuilt, report)
-        }
+        Ok(Written::UnbuiltAt(element)) => refuse_unbuilt(alloc, element, report),
         Err(_) => report_want_of_memory(report),
     }
 }

@@ -1,6 +1,6 @@
 // The lines of the report.
 ghost use Rattle.std.specs.Prelude.{◌≡◌, IfOk};
-ghost use Rattle.st_run.specs.Commands.{reason_word, refused_line};
+ghost use Rattle.st_run.specs.Commands.{reason_word, refused_line, unbuilt};
 
 use itoa::Buffer;
 use st_base::{OutOfMemory, Place, Reason};
@@ -30,7 +30,6 @@ fn word(reason: Reason) -> &'static [u8]
         Reason::FloatOutside => b"FloatOutside",
         Reason::Syntax => b"Syntax",
         Reason::TooDeep => b"TooDeep",
-        Reason::Unbuilt => b"Unbuilt",
         Reason::DuplicateClass => b"DuplicateClass",
         Reason::DuplicateName => b"DuplicateName",
         Reason::UnknownSuperclass => b"UnknownSuperclass",
@@ -59,5 +58,16 @@ pub fn refusal(alloc: Global, place: Place, reason: Reason) -> Result<Vec<u8>, O
     line.extend_from_slice(b" ")?;
     line.extend_from_slice(word(reason))?;
     line.extend_from_slice(b"\n")?;
+    Ok(line)
+}
+
+/// The line for a program that can't yet be run.
+pub fn unbuilt(alloc: Global, element: u32) -> Result<Vec<u8>, OutOfMemory>
+    ensures { IfOk result (λ line. line.items ≡ (unbuilt element).report) }
+{
+    let mut number = Buffer::new();
+    let mut line = Vec::from_slice(alloc, b"stx: refused element ")?;
+    line.extend_from_slice(number.format(element).as_bytes())?;
+    line.extend_from_slice(b" byte 0 Unbuilt\n")?;
     Ok(line)
 }
