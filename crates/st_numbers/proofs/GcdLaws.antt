@@ -1,5 +1,5 @@
 -- Euclid's steps give the greatest common divisor, and what follows of numbers without a common divisor.
-use Rattle.std.proofs.Common.{◌≡◌, ℕ, suc, zero, ◌+◌, ◌*◌, ◌/◌, ◌%◌, ◌<◌, false, ◌==◌, refl, ap, sym, ◌∙◌, subst, arith}
+use Rattle.std.proofs.Common.{◌≡◌, ℕ, suc, zero, ◌+◌, ◌*◌, ◌/◌, ◌%◌, ◌<◌, Bool, true, false, ◌==◌, refl, ap, sym, ◌∙◌, subst, arith}
 use Rattle.std.specs.Int.{IsGcd, ◌∣◌}
 use Rattle.std.proofs.lemmas.Nat.Gcd.{IsGcd-from_zero, IsGcd-from_mod, IsGcd-swap, same_from_IsGcd, dvd-zero, dvd_trans}
 use Rattle.std.proofs.Math.Nat.{mul-mul-mul_comm, mul-div_cancel_left, mul-zero, mul-one, mul_comm, mul-add, mul-pos, mul-lt-mul_of_pos_left, mod-eq_of_lt, eq_of_mul-eq-mul_left, mul_assoc, mul-div_cancel', mul-add-mod_self_left, dvd-mul_left, eq-one_of_dvd-one}
@@ -15,13 +15,30 @@ ap2 f {a = a} {b' = b'} p q = ap (f a) q ∙ ap (λ x. f x b') p
 
 -- ---- Euclid
 
+step_by : (t : Bool) (a b : ℕ) → t ≡ false → elim t [ true ↦ a | false ↦ b ] ≡ b
+step_by true a b e = cc
+step_by false a b e = refl
+
+end_by : (t : Bool) (a b : ℕ) → t ≡ true → elim t [ true ↦ a | false ↦ b ] ≡ a
+end_by true a b e = refl
+end_by false a b e = cc
+
+-- a step, and the last one
+step : (steps a b : ℕ) → (b == 0) ≡ false → gcd_within (suc steps) a b ≡ gcd_within steps b (a % b)
+unfolding gcd_within
+step steps a b e = step_by (b == 0) a (gcd_within steps b (a % b)) e
+
+end : (steps a b : ℕ) → (b == 0) ≡ true → gcd_within (suc steps) a b ≡ a
+unfolding gcd_within
+end steps a b e = end_by (b == 0) a (gcd_within steps b (a % b)) e
+
 pub gcd_within-is : (steps a b : ℕ) → b < steps → IsGcd a b (gcd_within steps a b)
 unfolding gcd_within
 gcd_within-is zero a b l = let none : ⊥ = omega (arith, l) in absurd none
 gcd_within-is (suc steps) a zero l = IsGcd-from_zero a 0 refl
 gcd_within-is (suc steps) a (suc k) l =
     let less : a % suc k < steps = omega arith in
-    rw (eqb-suc-zero k) (IsGcd-from_mod a (suc k) (gcd_within steps (suc k) (a % suc k)) (gcd_within-is steps (suc k) (a % suc k) less))
+    rw (step steps a (suc k) (eqb-suc-zero k)) (IsGcd-from_mod a (suc k) (gcd_within steps (suc k) (a % suc k)) (gcd_within-is steps (suc k) (a % suc k) less))
 
 pub gcd-is : (a b : ℕ) → IsGcd a b (gcd a b)
 unfolding gcd
@@ -71,11 +88,11 @@ mod-scaled k a b lk lb =
 gcd_within-scaled : (steps k a b : ℕ) → 0 < k → gcd_within steps (k * a) (k * b) ≡ k * gcd_within steps a b
 unfolding gcd_within
 gcd_within-scaled zero k a b l = refl
-gcd_within-scaled (suc steps) k a zero l = rw mul-zero refl
+gcd_within-scaled (suc steps) k a zero l = end steps (k * a) (k * 0) (ap (λ (n : ℕ). n == 0) (mul-zero k)) ∙ ap (λ (n : ℕ). k * n) (sym (end steps a 0 refl))
 gcd_within-scaled (suc steps) k a (suc b) l =
     let there : 0 < k * suc b = mul-pos l (omega arith) in
     let off : (k * suc b == 0) ≡ false = not_zero (k * suc b) there in
-    rw (off, eqb-suc-zero b, mod-scaled k a (suc b) l (omega arith)) (gcd_within-scaled steps k (suc b) (a % suc b) l)
+    rw (step steps (k * a) (k * suc b) off, step steps a (suc b) (eqb-suc-zero b), mod-scaled k a (suc b) l (omega arith)) (gcd_within-scaled steps k (suc b) (a % suc b) l)
 
 pub gcd-scaled : (k a b : ℕ) → 0 < k → gcd (k * a) (k * b) ≡ k * gcd a b
 unfolding gcd

@@ -1,5 +1,5 @@
 -- Integers and Fractions as numbers of any size, and which of them fit.
-use Rattle.std.specs.Prelude.{ℕ, ℤ, pos, negsuc, ◌^◌, ◌≡◌, ◌≤ℤ◌, ◌*ℤ◌, neg_ℤ, unsigned_abs, int_lt, nat_lt, Bool, true, false, not, if◌then◌else◌}
+use Rattle.std.specs.Prelude.{ℕ, ℤ, pos, negsuc, ◌^◌, ◌≡◌, ◌≤ℤ◌, ◌*ℤ◌, neg_ℤ, unsigned_abs, int_le, int_lt, nat_lt, ◌==◌, ◌&&◌, Bool, true, false, not, if◌then◌else◌}
 use Rattle.std.specs.Int.{is_negative}
 use Rattle.st_numbers.specs.declared.message.Number.{Number}
 use Rattle.st_numbers.specs.declared.message.NumberArgument.{NumberArgument}
@@ -32,6 +32,11 @@ denominator_of (Number.Fraction n d) = unsigned_abs d
 abbrev pub IsProper : Number → Type 0
 IsProper (Number.Integer n) = Unit {0}
 IsProper (Number.Fraction n d) = (pos 2 ≤ℤ d) × (gcd (unsigned_abs n) (unsigned_abs d) ≡ 1)
+
+-- the same as a test
+abbrev pub is_proper : Number → Bool
+is_proper (Number.Integer n) = true
+is_proper (Number.Fraction n d) = int_le (pos 2) d && (gcd (unsigned_abs n) (unsigned_abs d) == 1)
 
 abbrev pub IsProperArgument : NumberArgument → Type 0
 IsProperArgument NumberArgument.None = Unit {0}

@@ -1,7 +1,7 @@
 // What a message to a number answers.
 ghost use Rattle.std.specs.Prelude.{◌≡◌, ◌↔◌, IsTrue};
 ghost use Rattle.object_heap.specs.declared.value.Value.{Value};
-ghost use Rattle.st_numbers.specs.Numbers.{IsProper, IsProperArgument};
+ghost use Rattle.st_numbers.specs.Numbers.{IsProper, IsProperArgument, is_proper};
 ghost use Rattle.st_numbers.specs.Answers.{answer_of, IsProperAnswer};
 ghost use Rattle.st_numbers.specs.declared.message.NumberArgument.{NumberArgument};
 
@@ -39,7 +39,8 @@ pub fn number_message(
 
 /// Whether a number is an Integer, or a Fraction in lowest terms with a denominator of at least 2.
 pub fn is_proper(number: Number) -> bool
-    ensures { IsTrue result ↔ IsProper number }
+    ensures test { result ≡ is_proper number }
+    ensures proper { IsTrue result ↔ IsProper number }
 {
     match number {
         Number::Integer(_) => true,

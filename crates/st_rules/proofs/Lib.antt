@@ -10,6 +10,7 @@ pub mod HandlerRuns
 pub mod UnwindingRuns
 pub mod SignalRuns
 pub mod PlainRuns
+pub mod NumberAnswers
 pub mod BankRun
 pub mod SameProgram
 pub mod SameActions
@@ -54,6 +55,7 @@ pub mod NothingMissing
 pub mod SharedStands
 pub mod ValuesHave
 pub mod RowsHave
+pub mod NumbersHave
 pub mod ObjectsRun
 pub mod MoreRowsHave
 pub mod VisitsHave

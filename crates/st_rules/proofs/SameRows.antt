@@ -1,22 +1,27 @@
 -- What a message does at once reads neither scopes nor closures, and leaves them as they are: only the messages of Blocks do.
-use Rattle.std.proofs.Common.{◌≡◌, ℕ, zero, suc, ◌+◌, ℤ, pos, nat_abs, nat_eq, ◌&&◌, if◌then◌else◌, List, [], ◌∷◌, Option, Some, None, Bool, true, false, refl, ap, arith}
+use Rattle.std.proofs.Common.{◌≡◌, ℕ, zero, suc, ◌+◌, ℤ, pos, negsuc, nat_abs, nat_eq, nat_le, nat_lt, ◌^◌, ◌&&◌, if◌then◌else◌, List, [], ◌∷◌, Option, Some, None, Bool, true, false, refl, ap, arith}
 use Rattle.object_heap.specs.declared.value.Value.{Value}
 use Rattle.object_heap.specs.declared.value.Value.TheVariants.{Nil, Integer, Symbol, Object}
 use Rattle.object_heap.specs.declared.value.Closure.{Closure}
-use Rattle.object_heap.specs.declared.trouble.Trouble.TheVariants.{IndexOutOfRange, NumberExpected}
+use Rattle.object_heap.specs.declared.trouble.Trouble.{Trouble}
+use Rattle.object_heap.specs.declared.trouble.Trouble.TheVariants.{IndexOutOfRange}
 use Rattle.object_heap.specs.Store.{Store, Scope, object_at, with_slot, with_byte}
 use Rattle.st_code.specs.Program.{Program, Indexed, NoIndexes, ByObject, ByByte}
-use Rattle.st_code.specs.BuiltIns.{string_class, byte_array_class, interval_class}
+use Rattle.st_code.specs.BuiltIns.{string_class, byte_array_class}
 use Rattle.st_code.specs.Lookup.{level_of, class_of, is_exception, is_plain, fits}
 use Rattle.st_code.specs.Messages.{Control, ObjectMessage, ClassMessage, NumberMessage, CharacterMessage, StringMessage, SequenceMessage, ExceptionMessage, LoopMessage, BooleanMessage, CollectionMessage, TranscriptMessage}
-use Rattle.st_collections.specs.Actions.{Activates, Enters, Gives, first, second, Action, Changes, Makes, Fails, PassesIntegers, Raises, with_new, makes_slots, makes_bytes, makes_string, makes_blank}
-use Rattle.st_collections.specs.Kinds.{interval_size, is_a, bytes_of, slots_of, slot_of, size_of, element, some_elements, elements, is_sequence, is_collection, species, print_text, exception_text}
+use Rattle.st_collections.specs.Actions.{Activates, Enters, Gives, first, second, Action, Changes, Makes, Fails, Raises, with_new, makes_slots, makes_bytes, makes_string, makes_blank}
+use Rattle.st_collections.specs.IntervalRows.{with_integer, interval}
+use Rattle.st_collections.specs.Kinds.{interval_size, integer_of, is_a, bytes_of, slots_of, slot_of, size_of, element, some_elements, elements, is_sequence, is_collection, species, print_text, exception_text}
 use Rattle.st_collections.specs.ObjectRows.{indexed, index_in, byte_put, object_action, class_action, boolean_action}
 use Rattle.st_collections.specs.TextRows.{with_character, character_action, string_action, transcript_action}
 use Rattle.st_collections.specs.SequenceRows.{makes_sequence, with_elements, without_element, sequence_action, collection_action}
 use Rattle.st_collections.specs.Loops.{loop_action}
-use Rattle.st_rules.specs.NumberRows.{ratio_of, gives_integer, gives_ratio, number_action}
-use Rattle.st_rules.specs.Numbers.{Ratio, Sum, in_range, reduced}
+use Rattle.st_numbers.specs.Answers.{answer_of}
+use Rattle.st_numbers.specs.declared.message.Number.{Number}
+use Rattle.st_numbers.specs.declared.message.NumberAnswer.{NumberAnswer}
+use Rattle.st_numbers.specs.declared.message.NumberMessage.{NumberMessage as Arithmetic}
+use Rattle.st_rules.specs.NumberRows.{as_number, argument_of, dividend_of, numeric_action, of_number, arithmetic_action, in_radix, Asked, asked, number_at, number_action}
 use Rattle.st_rules.specs.ExceptionRows.{exception_action}
 
 -- the store with other closures and scopes
@@ -32,19 +37,11 @@ relabeled cl sc (Activates c args) = Gives Nil
 relabeled cl sc (Enters code r args) = Gives Nil
 relabeled cl sc a = a
 
--- an Interval, and what is written at an index, as the rows have them
-abbrev interval_given : Store → ℤ → ℤ → ℤ → Action
-interval_given s start stop by =
-    if in_range (pos (interval_size start stop by)) then makes_slots interval_class (Integer start ∷ Integer stop ∷ Integer by ∷ []) s else PassesIntegers
-
+-- what is written at an index, as the row has it
 abbrev put_given : Store → ℕ → ℕ → ℕ → Value → Action
 put_given s number class i v =
     if nat_eq class string_class then with_character v (λ b. Changes (with_byte number i b s) v) else
     (if nat_eq class byte_array_class then byte_put s number i v else Changes (with_slot number i v s) v)
-
-abbrev sum_given : Store → Sum → Action
-sum_given s x =
-    if in_range x.left && in_range x.right && in_range x.total && in_range (pos x.under) then gives_ratio s (reduced x.total x.under) else PassesIntegers
 
 module _ (p : Program) (s : Store) (cl : List Closure) (sc : List Scope) where
   abbrev other : Store
@@ -58,18 +55,6 @@ module _ (p : Program) (s : Store) (cl : List Closure) (sc : List Scope) where
   elements_free : (v : Value) → elements p other v ≡ elements p s v
   unfolding elements size_of
   elements_free v = some_elements_free v 1 (size_of p s v)
-
-  ratio_free : (v : Value) → ratio_of other v ≡ ratio_of s v
-  unfolding ratio_of is_a slots_of slot_of
-  ratio_free v = refl
-
-  integer_free : (n : ℤ) → gives_integer n ≡ relabeled cl sc (gives_integer n)
-  unfolding gives_integer
-  integer_free n = grind arith
-
-  gives_ratio_free : (a : Ratio) → gives_ratio other a ≡ relabeled cl sc (gives_ratio s a)
-  unfolding gives_ratio makes_slots with_new
-  gives_ratio_free a = grind arith
 
   size_free : (v : Value) → size_of p other v ≡ size_of p s v
   unfolding size_of
@@ -126,19 +111,8 @@ module _ (p : Program) (s : Store) (cl : List Closure) (sc : List Scope) where
   if_by true a b a' b' h i = h
   if_by false a b a' b' h i = i
 
-  number_by : (o : Option Ratio) (f g : Ratio → Action) → ((a : Ratio) → f a ≡ relabeled cl sc (g a)) → elim o [ Some a ↦ f a | None ↦ Fails NumberExpected ] ≡ relabeled cl sc (elim o [ Some a ↦ g a | None ↦ Fails NumberExpected ])
-  number_by None f g h = refl
-  number_by (Some a) f g h = h a
-
   byte_put_free : (n i : ℕ) (v : Value) → byte_put other n i v ≡ relabeled cl sc (byte_put s n i v)
   byte_put_free n i v = grind arith
-
-  sum_free : (x : Sum) → sum_given other x ≡ relabeled cl sc (sum_given s x)
-  sum_free x = if_by (in_range x.left && in_range x.right && in_range x.total && in_range (pos x.under)) _ _ _ _ (gives_ratio_free (reduced x.total x.under)) refl
-
-  interval_free : (start stop by : ℤ) → interval_given other start stop by ≡ relabeled cl sc (interval_given s start stop by)
-  unfolding makes_slots with_new
-  interval_free start stop by = if_by (in_range (pos (interval_size start stop by))) _ _ _ _ refl refl
 
   put_free : (number class i : ℕ) (v : Value) → put_given other number class i v ≡ relabeled cl sc (put_given s number class i v)
   put_free number class i v = grind arith
@@ -190,144 +164,46 @@ module _ (p : Program) (s : Store) (cl : List Closure) (sc : List Scope) where
   object_free ObjectMessage.IsSymbol (Symbol name) args = refl
   object_free m r args = refl
 
-  number_multiply : (r : Value) (args : List Value) → number_action p other NumberMessage.Multiply r args ≡ relabeled cl sc (number_action p s NumberMessage.Multiply r args)
-  unfolding number_action print_text with_new makes_slots makes_bytes makes_string
-  number_multiply r args = grind (arith, ratio_free, integer_free, gives_ratio_free)
+  numeric_free : (dividend r v : Value) (a : NumberAnswer) → numeric_action other dividend r v a ≡ relabeled cl sc (numeric_action s dividend r v a)
+  unfolding makes_slots with_new
+  numeric_free dividend r v (NumberAnswer.Trouble Trouble.ZeroDivide) = refl
+  numeric_free dividend r v (NumberAnswer.Trouble t) = refl
+  numeric_free dividend r v a = refl
 
-  number_divide : (r : Value) (args : List Value) → number_action p other NumberMessage.Divide r args ≡ relabeled cl sc (number_action p s NumberMessage.Divide r args)
-  unfolding number_action print_text with_new makes_slots makes_bytes makes_string
-  number_divide r args = grind (arith, ratio_free, integer_free, gives_ratio_free)
+  of_number_free : (m : Arithmetic) (o : Option Number) (r : Value) (args : List Value) → of_number other m o r args ≡ relabeled cl sc (of_number s m o r args)
+  unfolding argument_of as_number is_a slot_of slots_of
+  of_number_free m None r args = refl
+  of_number_free m (Some x) r args = numeric_free (dividend_of m r) r (first args) (answer_of m x (argument_of s args))
 
-  number_floor_divide : (r : Value) (args : List Value) → number_action p other NumberMessage.FloorDivide r args ≡ relabeled cl sc (number_action p s NumberMessage.FloorDivide r args)
-  unfolding number_action print_text with_new makes_slots makes_bytes makes_string
-  number_floor_divide r args = grind (arith, ratio_free, integer_free, gives_ratio_free)
+  arithmetic_free : (m : Arithmetic) (r : Value) (args : List Value) → arithmetic_action other m r args ≡ relabeled cl sc (arithmetic_action s m r args)
+  unfolding arithmetic_action as_number is_a slot_of slots_of
+  arithmetic_free m r args = of_number_free m (as_number s r) r args
 
-  number_floor_modulo : (r : Value) (args : List Value) → number_action p other NumberMessage.FloorModulo r args ≡ relabeled cl sc (number_action p s NumberMessage.FloorModulo r args)
-  unfolding number_action print_text with_new makes_slots makes_bytes makes_string
-  number_floor_modulo r args = grind (arith, ratio_free, integer_free, gives_ratio_free)
+  integer_by : (v : Value) (f g : ℤ → Action) → ((n : ℤ) → f n ≡ relabeled cl sc (g n)) → with_integer v f ≡ relabeled cl sc (with_integer v g)
+  integer_by (Integer n) f g h = h n
+  integer_by v f g h = refl
 
-  number_quotient : (r : Value) (args : List Value) → number_action p other NumberMessage.Quotient r args ≡ relabeled cl sc (number_action p s NumberMessage.Quotient r args)
-  unfolding number_action print_text with_new makes_slots makes_bytes makes_string
-  number_quotient r args = grind (arith, ratio_free, integer_free, gives_ratio_free)
+  radix_free : (r radix : ℤ) → in_radix other r radix ≡ relabeled cl sc (in_radix s r radix)
+  unfolding makes_string makes_bytes with_new
+  radix_free r (pos radix) = if_by (nat_le 2 radix && nat_le radix 36) _ _ _ _ refl refl
+  radix_free r (negsuc radix) = refl
 
-  number_remainder : (r : Value) (args : List Value) → number_action p other NumberMessage.Remainder r args ≡ relabeled cl sc (number_action p s NumberMessage.Remainder r args)
-  unfolding number_action print_text with_new makes_slots makes_bytes makes_string
-  number_remainder r args = grind (arith, ratio_free, integer_free, gives_ratio_free)
+  interval_free : (start stop by : ℤ) → interval other start stop by ≡ relabeled cl sc (interval s start stop by)
+  unfolding makes_slots with_new
+  interval_free start stop by = if_by (nat_lt (interval_size start stop by) (2 ^ 127)) _ _ _ _ refl refl
 
-  number_less : (r : Value) (args : List Value) → number_action p other NumberMessage.Less r args ≡ relabeled cl sc (number_action p s NumberMessage.Less r args)
-  unfolding number_action print_text with_new makes_slots makes_bytes makes_string
-  number_less r args = grind (arith, ratio_free, integer_free, gives_ratio_free)
-
-  number_greater : (r : Value) (args : List Value) → number_action p other NumberMessage.Greater r args ≡ relabeled cl sc (number_action p s NumberMessage.Greater r args)
-  unfolding number_action print_text with_new makes_slots makes_bytes makes_string
-  number_greater r args = grind (arith, ratio_free, integer_free, gives_ratio_free)
-
-  number_less_or_equal : (r : Value) (args : List Value) → number_action p other NumberMessage.LessOrEqual r args ≡ relabeled cl sc (number_action p s NumberMessage.LessOrEqual r args)
-  unfolding number_action print_text with_new makes_slots makes_bytes makes_string
-  number_less_or_equal r args = grind (arith, ratio_free, integer_free, gives_ratio_free)
-
-  number_greater_or_equal : (r : Value) (args : List Value) → number_action p other NumberMessage.GreaterOrEqual r args ≡ relabeled cl sc (number_action p s NumberMessage.GreaterOrEqual r args)
-  unfolding number_action print_text with_new makes_slots makes_bytes makes_string
-  number_greater_or_equal r args = grind (arith, ratio_free, integer_free, gives_ratio_free)
-
-  number_negated : (r : Value) (args : List Value) → number_action p other NumberMessage.Negated r args ≡ relabeled cl sc (number_action p s NumberMessage.Negated r args)
-  unfolding number_action print_text with_new makes_slots makes_bytes makes_string
-  number_negated r args = grind (arith, ratio_free, integer_free, gives_ratio_free)
-
-  number_abs : (r : Value) (args : List Value) → number_action p other NumberMessage.Abs r args ≡ relabeled cl sc (number_action p s NumberMessage.Abs r args)
-  unfolding number_action print_text with_new makes_slots makes_bytes makes_string
-  number_abs r args = grind (arith, ratio_free, integer_free, gives_ratio_free)
-
-  number_max : (r : Value) (args : List Value) → number_action p other NumberMessage.Max r args ≡ relabeled cl sc (number_action p s NumberMessage.Max r args)
-  unfolding number_action print_text with_new makes_slots makes_bytes makes_string
-  number_max r args = grind (arith, ratio_free, integer_free, gives_ratio_free)
-
-  number_min : (r : Value) (args : List Value) → number_action p other NumberMessage.Min r args ≡ relabeled cl sc (number_action p s NumberMessage.Min r args)
-  unfolding number_action print_text with_new makes_slots makes_bytes makes_string
-  number_min r args = grind (arith, ratio_free, integer_free, gives_ratio_free)
-
-  number_gcd : (r : Value) (args : List Value) → number_action p other NumberMessage.Gcd r args ≡ relabeled cl sc (number_action p s NumberMessage.Gcd r args)
-  unfolding number_action print_text with_new makes_slots makes_bytes makes_string
-  number_gcd r args = grind (arith, ratio_free, integer_free, gives_ratio_free)
-
-  number_lcm : (r : Value) (args : List Value) → number_action p other NumberMessage.Lcm r args ≡ relabeled cl sc (number_action p s NumberMessage.Lcm r args)
-  unfolding number_action print_text with_new makes_slots makes_bytes makes_string
-  number_lcm r args = grind (arith, ratio_free, integer_free, gives_ratio_free)
-
-  number_bit_and : (r : Value) (args : List Value) → number_action p other NumberMessage.BitAnd r args ≡ relabeled cl sc (number_action p s NumberMessage.BitAnd r args)
-  unfolding number_action print_text with_new makes_slots makes_bytes makes_string
-  number_bit_and r args = grind (arith, ratio_free, integer_free, gives_ratio_free)
-
-  number_bit_or : (r : Value) (args : List Value) → number_action p other NumberMessage.BitOr r args ≡ relabeled cl sc (number_action p s NumberMessage.BitOr r args)
-  unfolding number_action print_text with_new makes_slots makes_bytes makes_string
-  number_bit_or r args = grind (arith, ratio_free, integer_free, gives_ratio_free)
-
-  number_bit_xor : (r : Value) (args : List Value) → number_action p other NumberMessage.BitXor r args ≡ relabeled cl sc (number_action p s NumberMessage.BitXor r args)
-  unfolding number_action print_text with_new makes_slots makes_bytes makes_string
-  number_bit_xor r args = grind (arith, ratio_free, integer_free, gives_ratio_free)
-
-  number_bit_shift : (r : Value) (args : List Value) → number_action p other NumberMessage.BitShift r args ≡ relabeled cl sc (number_action p s NumberMessage.BitShift r args)
-  unfolding number_action print_text with_new makes_slots makes_bytes makes_string
-  number_bit_shift r args = grind (arith, ratio_free, integer_free, gives_ratio_free)
-
-  number_reciprocal : (r : Value) (args : List Value) → number_action p other NumberMessage.Reciprocal r args ≡ relabeled cl sc (number_action p s NumberMessage.Reciprocal r args)
-  unfolding number_action print_text with_new makes_slots makes_bytes makes_string
-  number_reciprocal r args = grind (arith, ratio_free, integer_free, gives_ratio_free)
-
-  number_print_radix : (r : Value) (args : List Value) → number_action p other NumberMessage.PrintRadix r args ≡ relabeled cl sc (number_action p s NumberMessage.PrintRadix r args)
-  unfolding number_action print_text with_new makes_slots makes_bytes makes_string
-  number_print_radix r args = grind (arith, ratio_free, integer_free, gives_ratio_free)
-
-  number_from_numerator : (r : Value) (args : List Value) → number_action p other NumberMessage.FromNumerator r args ≡ relabeled cl sc (number_action p s NumberMessage.FromNumerator r args)
-  unfolding number_action print_text with_new makes_slots makes_bytes makes_string
-  number_from_numerator r args = grind (arith, ratio_free, integer_free, gives_ratio_free)
-
-  number_to : (r : Value) (n : ℤ) (args : List Value) → number_action p other NumberMessage.To r (Integer n ∷ args) ≡ relabeled cl sc (number_action p s NumberMessage.To r (Integer n ∷ args))
-  unfolding number_action ratio_of is_a slots_of slot_of
-  number_to r n args = interval_free _ n (pos 1)
-
-  number_to_by : (r : Value) (n by : ℤ) (args : List Value) → number_action p other NumberMessage.ToBy r (Integer n ∷ Integer by ∷ args) ≡ relabeled cl sc (number_action p s NumberMessage.ToBy r (Integer n ∷ Integer by ∷ args))
-  unfolding number_action ratio_of is_a slots_of slot_of
-  number_to_by r n by args = if_by (nat_eq (nat_abs by) 0) _ _ _ _ refl (interval_free _ n by)
-
-  number_add : (r : Value) (args : List Value) → number_action p other NumberMessage.Add r args ≡ relabeled cl sc (number_action p s NumberMessage.Add r args)
-  unfolding number_action ratio_of is_a slots_of slot_of
-  number_add r args = number_by (ratio_of s (first args)) _ _ (λ b. sum_free _)
-
-  number_subtract : (r : Value) (args : List Value) → number_action p other NumberMessage.Subtract r args ≡ relabeled cl sc (number_action p s NumberMessage.Subtract r args)
-  unfolding number_action ratio_of is_a slots_of slot_of
-  number_subtract r args = number_by (ratio_of s (first args)) _ _ (λ b. sum_free _)
+  number_at_free : (m : Asked) (r : Value) (args : List Value) → number_at p other m r args ≡ relabeled cl sc (number_at p s m r args)
+  unfolding print_text makes_string makes_bytes with_new is_a slot_of slots_of
+  number_at_free (Asked.Computes m) r args = arithmetic_free m r args
+  number_at_free Asked.AsString r args = refl
+  number_at_free Asked.PrintRadix r args = integer_by (first args) _ _ (λ radix. radix_free (integer_of r) radix)
+  number_at_free Asked.To r args = integer_by (first args) _ _ (λ stop. interval_free (integer_of r) stop (pos 1))
+  number_at_free Asked.ToBy r args = integer_by (first args) _ _ (λ stop. integer_by (second args) _ _ (λ by. if_by (nat_eq (nat_abs by) 0) _ _ _ _ refl (interval_free (integer_of r) stop by)))
+  number_at_free Asked.FromNumerator r args = integer_by (first args) _ _ (λ n. integer_by (second args) _ _ (λ d. arithmetic_free Arithmetic.Divide (Integer n) (Integer d ∷ [])))
 
   pub number_free : (m : NumberMessage) (r : Value) (args : List Value) → number_action p other m r args ≡ relabeled cl sc (number_action p s m r args)
-  unfolding number_action ratio_of is_a slots_of slot_of print_text with_new makes_slots makes_bytes makes_string
-  number_free NumberMessage.Multiply r args = number_multiply r args
-  number_free NumberMessage.Divide r args = number_divide r args
-  number_free NumberMessage.FloorDivide r args = number_floor_divide r args
-  number_free NumberMessage.FloorModulo r args = number_floor_modulo r args
-  number_free NumberMessage.Quotient r args = number_quotient r args
-  number_free NumberMessage.Remainder r args = number_remainder r args
-  number_free NumberMessage.Less r args = number_less r args
-  number_free NumberMessage.Greater r args = number_greater r args
-  number_free NumberMessage.LessOrEqual r args = number_less_or_equal r args
-  number_free NumberMessage.GreaterOrEqual r args = number_greater_or_equal r args
-  number_free NumberMessage.Negated r args = number_negated r args
-  number_free NumberMessage.Abs r args = number_abs r args
-  number_free NumberMessage.Max r args = number_max r args
-  number_free NumberMessage.Min r args = number_min r args
-  number_free NumberMessage.Gcd r args = number_gcd r args
-  number_free NumberMessage.Lcm r args = number_lcm r args
-  number_free NumberMessage.BitAnd r args = number_bit_and r args
-  number_free NumberMessage.BitOr r args = number_bit_or r args
-  number_free NumberMessage.BitXor r args = number_bit_xor r args
-  number_free NumberMessage.BitShift r args = number_bit_shift r args
-  number_free NumberMessage.Reciprocal r args = number_reciprocal r args
-  number_free NumberMessage.PrintRadix r args = number_print_radix r args
-  number_free NumberMessage.FromNumerator r args = number_from_numerator r args
-  number_free NumberMessage.Add r args = number_add r args
-  number_free NumberMessage.Subtract r args = number_subtract r args
-  number_free NumberMessage.To r (Integer n ∷ args) = number_to r n args
-  number_free NumberMessage.ToBy r (Integer n ∷ Integer by ∷ args) = number_to_by r n by args
-  number_free m r args = refl
+  unfolding number_action
+  number_free m r args = number_at_free (asked m) r args
 
   sequence_first : (r : Value) (args : List Value) → sequence_action p other SequenceMessage.First r args ≡ relabeled cl sc (sequence_action p s SequenceMessage.First r args)
   unfolding sequence_action with_new makes_slots makes_bytes

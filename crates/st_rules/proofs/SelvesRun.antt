@@ -285,7 +285,7 @@ module _ (p : Program) (known : KnowsLiterals p) (knows : KnowsClasses p) where
   -- ---- a run
 
   -- what a run keeps of all this
-  abbrev TopFits : Top FlatBody → Type 0
+  abbrev pub TopFits : Top FlatBody → Type 0
   TopFits (On target xs m) = MachFits p m × SelvesSit p xs
   TopFits (Ended e st) = Unit {0}
 
@@ -342,6 +342,10 @@ module _ (p : Program) (known : KnowsLiterals p) (knows : KnowsClasses p) where
 
     pub selves_at : (n : ℕ) → SelvesAre p (at n)
     selves_at n = selves_are (at n) (both n).1
+
+-- all that a run keeps of selves, at each moment
+pub fits_at : (p : Program) (ok : Compilable p) (known : KnowsLiterals p) (knows : KnowsClasses p) (n : ℕ) → TopFits p known knows (top_iter (flat_of p) p n (opened_run (flat_of p) p))
+fits_at p ok known knows n = (both p known knows ok n).1
 
 pub selves_fit : SelvesFit
 selves_fit p ok known knows n = selves_at p known knows ok n

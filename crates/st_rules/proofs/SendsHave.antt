@@ -17,7 +17,8 @@ use Rattle.st_rules.specs.ExceptionRows.{closure_of, value_with, block_at, block
 use Rattle.st_rules.specs.Rules.{closure_for}
 use Rattle.st_rules.specs.Objects.{Has, AllHave, ObjectsHave, ClosureHas, ClosuresHave, ActionHas}
 use Rattle.st_rules.proofs.ValuesHave.{first_has, second_has}
-use Rattle.st_rules.proofs.RowsHave.{Gets, slots_have, slot_has, if_has, numbers_have}
+use Rattle.st_rules.proofs.RowsHave.{Gets, slots_have, slot_has, if_has}
+use Rattle.st_rules.proofs.NumbersHave.{numbers_have}
 use Rattle.st_rules.proofs.MoreRowsHave.{objects_have, classes_have, booleans_have, characters_have, transcripts_have, strings_have, sequences_have, collections_have, exceptions_have, loops_have}
 
 -- a closure, if there is one

@@ -1,6 +1,5 @@
 pub mod Events
 pub mod State
-pub mod Numbers
 pub mod NumberRows
 pub mod ExceptionRows
 pub mod Sends

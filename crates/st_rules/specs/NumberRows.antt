@@ -1,121 +1,128 @@
--- Messages of Integers and Fractions (ANSI 5.6).
-use Rattle.std.specs.Prelude.{ℕ, ◌+◌, ◌*◌, ◌/◌, ◌%◌, ℤ, pos, negsuc, nat_abs, int_div, int_rem, Bool, true, false, ◌&&◌, List, [], ◌∷◌, Option, Some, None, nat_eq, nat_le, if◌then◌else◌}
+-- Messages of Integers and Fractions (ANSI 5.6): how numbers are read from values, and what becomes of their answers. The arithmetic itself stands with the numbers, and Intervals with the collections.
+use Rattle.std.specs.Prelude.{ℕ, ◌+◌, ℤ, pos, negsuc, true, ◌&&◌, List, [], ◌∷◌, Option, Some, None, nat_le, if◌then◌else◌}
 use Rattle.std.specs.Fmt.{digits_onto}
 use Rattle.object_heap.specs.declared.value.Value.{Value}
 use Rattle.object_heap.specs.declared.value.Value.TheVariants.{Integer, Object}
-use Rattle.object_heap.specs.declared.trouble.Trouble.TheVariants.{NumberExpected, StepIsZero, BadRadix}
+use Rattle.object_heap.specs.declared.trouble.Trouble.{Trouble}
+use Rattle.object_heap.specs.declared.trouble.Trouble.TheVariants.{NumberExpected, BadRadix}
 use Rattle.object_heap.specs.Store.{Store}
+use Rattle.st_numbers.specs.Answers.{answer_of}
+use Rattle.st_numbers.specs.Numbers.{is_proper}
+use Rattle.st_numbers.specs.declared.message.Number.{Number}
+use Rattle.st_numbers.specs.declared.message.NumberAnswer.{NumberAnswer}
+use Rattle.st_numbers.specs.declared.message.NumberArgument.{NumberArgument}
+use Rattle.st_numbers.specs.declared.message.NumberMessage.{NumberMessage as Arithmetic}
 use Rattle.st_code.specs.Program.{Program}
-use Rattle.st_code.specs.BuiltIns.{fraction_class, interval_class}
+use Rattle.st_code.specs.BuiltIns.{fraction_class}
 use Rattle.st_code.specs.Messages.{NumberMessage}
-use Rattle.st_collections.specs.Actions.{Action, Gives, Fails, DividesByZero, PassesIntegers, boolean, first, second, makes_slots, makes_string}
-use Rattle.st_collections.specs.Kinds.{is_a, slot_of, integer_of, natural_of, interval_size, print_text}
-use Rattle.st_rules.specs.Numbers.{Ratio, whole, Sum, gcd, in_range, floor_div, floor_mod, and_bits, or_bits, xor_bits, shifted, reduced, quotient_of, product_of, sum_of, difference_of, negative_of, ratio_less, ratio_at_most, truncated}
+use Rattle.st_collections.specs.Actions.{Action, Gives, Fails, DividesByZero, PassesIntegers, first, second, makes_slots, makes_string}
+use Rattle.st_collections.specs.IntervalRows.{with_integer, to_action, to_by_action}
+use Rattle.st_collections.specs.Kinds.{is_a, slot_of, integer_of, print_text}
 
--- the number that a value is
-unfoldable pub ratio_of : Store → Value → Option Ratio
-ratio_of s (Integer n) = Some (whole n)
-ratio_of s (Object number) = if is_a s fraction_class (Object number) then Some (record { over = integer_of (slot_of s (Object number) 0); under = natural_of (integer_of (slot_of s (Object number) 1)) }) else None
-ratio_of s v = None
+-- a number that stands in lowest terms; no run makes a Fraction that doesn't
+abbrev pub if_proper : Number → Option Number
+if_proper x = if is_proper x then Some x else None
 
-abbrev with_number : Store → Value → (Ratio → Action) → Action
-with_number s v act = elim (ratio_of s v) [ Some b ↦ act b | None ↦ Fails NumberExpected ]
+-- the number that a value is: an Integer, or a Fraction by its two slots
+unfoldable pub as_number : Store → Value → Option Number
+as_number s (Integer n) = Some (Number.Integer n)
+as_number s (Object number) = if is_a s fraction_class (Object number) then if_proper (Number.Fraction (integer_of (slot_of s (Object number) 0)) (integer_of (slot_of s (Object number) 1))) else None
+as_number s v = None
 
-abbrev with_integer : Value → (ℤ → Action) → Action
-with_integer (Integer n) act = act n
-with_integer v act = Fails NumberExpected
+-- what comes with a message
+abbrev pub as_argument : Value → Option Number → NumberArgument
+as_argument v (Some x) = NumberArgument.Number x
+as_argument v None = NumberArgument.Other v
 
--- an Integer within the range
-unfoldable pub gives_integer : ℤ → Action
-gives_integer n = if in_range n then Gives (Integer n) else PassesIntegers
+unfoldable pub argument_of : Store → List Value → NumberArgument
+argument_of s [] = NumberArgument.None
+argument_of s (v ∷ vs) = as_argument v (as_number s v)
 
--- a number in lowest terms whose two parts are within the range: an Integer, or a new Fraction
-unfoldable pub gives_ratio : Store → Ratio → Action
-gives_ratio s a =
-    if in_range a.over && in_range (pos a.under) then
-    (if nat_eq a.under 1 then Gives (Integer a.over) else makes_slots fraction_class (Integer a.over ∷ Integer (pos a.under) ∷ []) s) else PassesIntegers
+-- what is divided, where the divisor is zero: the receiver, and 1 by `reciprocal`
+abbrev pub dividend_of : Arithmetic → Value → Value
+dividend_of Arithmetic.Reciprocal r = Integer (pos 1)
+dividend_of m r = r
 
-abbrev gives_sum : Store → Sum → Action
-gives_sum s x =
-    if in_range x.left && in_range x.right && in_range x.total && in_range (pos x.under) then gives_ratio s (reduced x.total x.under) else PassesIntegers
+abbrev pub troubled : (dividend : Value) → Trouble → Action
+troubled dividend Trouble.ZeroDivide = DividesByZero dividend
+troubled dividend t = Fails t
 
--- a quotient; a zero divisor keeps the dividend
-abbrev divides : Store → Value → Ratio → Ratio → Action
-divides s dividend a b = if nat_eq (nat_abs b.over) 0 then DividesByZero dividend else gives_ratio s (quotient_of a b)
+-- an answer: a value, a new Fraction, a trouble or the integer limit
+abbrev pub numeric_action : Store → (dividend receiver argument : Value) → NumberAnswer → Action
+numeric_action s dividend r v (NumberAnswer.Value w) = Gives w
+numeric_action s dividend r v (NumberAnswer.Fraction n d) = makes_slots fraction_class (Integer n ∷ Integer d ∷ []) s
+numeric_action s dividend r v NumberAnswer.Receiver = Gives r
+numeric_action s dividend r v NumberAnswer.Argument = Gives v
+numeric_action s dividend r v (NumberAnswer.Trouble t) = troubled dividend t
+numeric_action s dividend r v NumberAnswer.IntegerLimit = PassesIntegers
 
-abbrev divides_integers : Value → Value → (ℤ → ℤ) → Action
-divides_integers r v by = with_integer v (λ n. if nat_eq (nat_abs n) 0 then DividesByZero r else gives_integer (by n))
+abbrev pub of_number : Store → Arithmetic → Option Number → Value → List Value → Action
+of_number s m None r args = Fails NumberExpected
+of_number s m (Some x) r args = numeric_action s (dividend_of m r) r (first args) (answer_of m x (argument_of s args))
 
-abbrev sign_of : ℤ → ℤ
-sign_of (pos n) = if nat_eq n 0 then pos 0 else pos 1
-sign_of (negsuc n) = negsuc 0
-
-abbrev is_negative : ℤ → Bool
-is_negative (pos n) = false
-is_negative (negsuc n) = true
-
-abbrev equal_to : Ratio → Option Ratio → Bool
-equal_to a None = false
-equal_to a (Some b) = ratio_at_most a b && ratio_at_most b a
-
-abbrev pub least_multiple : ℤ → ℤ → ℤ
-least_multiple a b = if nat_eq (nat_abs a) 0 then pos 0 else (if nat_eq (nat_abs b) 0 then pos 0 else pos (nat_abs a * nat_abs b / gcd (nat_abs a) (nat_abs b)))
+-- what a message of arithmetic does
+unfoldable pub arithmetic_action : Store → Arithmetic → Value → List Value → Action
+arithmetic_action s m r args = of_number s m (as_number s r) r args
 
 abbrev pub radix_text : ℕ → ℤ → List ℕ
 radix_text radix (pos n) = digits_onto 128 radix true n []
 radix_text radix (negsuc n) = 45 ∷ digits_onto 128 radix true (n + 1) []
 
+-- an Integer by its digits, for a radix from 2 to 36
 abbrev pub in_radix : Store → ℤ → ℤ → Action
 in_radix s r (pos radix) = if nat_le 2 radix && nat_le radix 36 then makes_string (radix_text radix r) s else Fails BadRadix
 in_radix s r (negsuc radix) = Fails BadRadix
 
--- an Interval; the integer limit where it would have too many elements
-abbrev interval : Store → ℤ → ℤ → ℤ → Action
-interval s start stop by =
-    if in_range (pos (interval_size start stop by)) then makes_slots interval_class (Integer start ∷ Integer stop ∷ Integer by ∷ []) s else PassesIntegers
+-- what a message asks for: arithmetic, or what takes more than numbers
+pub data Asked : Type 0 where
+  Computes : Arithmetic → Asked
+  AsString PrintRadix To ToBy FromNumerator : Asked
 
--- the messages, by the receiver as a number
-abbrev pub number_at : Program → Store → NumberMessage → Value → Ratio → List Value → Action
-number_at p s NumberMessage.Add r a args = with_number s (first args) (λ b. gives_sum s (sum_of a b))
-number_at p s NumberMessage.Subtract r a args = with_number s (first args) (λ b. gives_sum s (difference_of a b))
-number_at p s NumberMessage.Multiply r a args = with_number s (first args) (λ b. gives_ratio s (product_of a b))
-number_at p s NumberMessage.Divide r a args = with_number s (first args) (λ b. divides s r a b)
-number_at p s NumberMessage.FloorDivide r a args = divides_integers r (first args) (λ n. floor_div a.over n)
-number_at p s NumberMessage.FloorModulo r a args = divides_integers r (first args) (λ n. floor_mod a.over n)
-number_at p s NumberMessage.Quotient r a args = divides_integers r (first args) (λ n. int_div a.over n)
-number_at p s NumberMessage.Remainder r a args = divides_integers r (first args) (λ n. int_rem a.over n)
-number_at p s NumberMessage.Less r a args = with_number s (first args) (λ b. Gives (boolean (ratio_less a b)))
-number_at p s NumberMessage.Greater r a args = with_number s (first args) (λ b. Gives (boolean (ratio_less b a)))
-number_at p s NumberMessage.LessOrEqual r a args = with_number s (first args) (λ b. Gives (boolean (ratio_at_most a b)))
-number_at p s NumberMessage.GreaterOrEqual r a args = with_number s (first args) (λ b. Gives (boolean (ratio_at_most b a)))
-number_at p s NumberMessage.Equal r a args = Gives (boolean (equal_to a (ratio_of s (first args))))
-number_at p s NumberMessage.Negated r a args = gives_ratio s (negative_of a)
-number_at p s NumberMessage.Abs r a args = if is_negative a.over then gives_ratio s (negative_of a) else Gives r
-number_at p s NumberMessage.Sign r a args = Gives (Integer (sign_of a.over))
-number_at p s NumberMessage.Even r a args = Gives (boolean (nat_eq (nat_abs a.over % 2) 0))
-number_at p s NumberMessage.Odd r a args = Gives (boolean (nat_eq (nat_abs a.over % 2) 1))
-number_at p s NumberMessage.IsZero r a args = Gives (boolean (nat_eq (nat_abs a.over) 0))
-number_at p s NumberMessage.Max r a args = with_number s (first args) (λ b. Gives (if ratio_less a b then first args else r))
-number_at p s NumberMessage.Min r a args = with_number s (first args) (λ b. Gives (if ratio_less b a then first args else r))
-number_at p s NumberMessage.Gcd r a args = with_integer (first args) (λ n. gives_integer (pos (gcd (nat_abs a.over) (nat_abs n))))
-number_at p s NumberMessage.Lcm r a args = with_integer (first args) (λ n. gives_integer (least_multiple a.over n))
-number_at p s NumberMessage.BitAnd r a args = with_integer (first args) (λ n. Gives (Integer (and_bits a.over n)))
-number_at p s NumberMessage.BitOr r a args = with_integer (first args) (λ n. Gives (Integer (or_bits a.over n)))
-number_at p s NumberMessage.BitXor r a args = with_integer (first args) (λ n. Gives (Integer (xor_bits a.over n)))
-number_at p s NumberMessage.BitShift r a args = with_integer (first args) (λ n. gives_integer (shifted a.over n))
-number_at p s NumberMessage.Numerator r a args = Gives (Integer a.over)
-number_at p s NumberMessage.Denominator r a args = Gives (Integer (pos a.under))
-number_at p s NumberMessage.Truncated r a args = Gives (Integer (truncated a))
-number_at p s NumberMessage.Reciprocal r a args = divides s (Integer (pos 1)) (whole (pos 1)) a
-number_at p s NumberMessage.AsString r a args = makes_string (print_text p s r) s
-number_at p s NumberMessage.PrintRadix r a args = with_integer (first args) (λ n. in_radix s a.over n)
-number_at p s NumberMessage.To r a args = with_integer (first args) (λ n. interval s a.over n (pos 1))
-number_at p s NumberMessage.ToBy r a args = with_integer (first args) (λ n. with_integer (second args) (λ by. if nat_eq (nat_abs by) 0 then Fails StepIsZero else interval s a.over n by))
-number_at p s NumberMessage.FromNumerator r a args = with_integer (first args) (λ n. with_integer (second args) (λ d. divides s (Integer n) (whole n) (whole d)))
+abbrev pub asked : NumberMessage → Asked
+asked NumberMessage.Add = Asked.Computes Arithmetic.Add
+asked NumberMessage.Subtract = Asked.Computes Arithmetic.Subtract
+asked NumberMessage.Multiply = Asked.Computes Arithmetic.Multiply
+asked NumberMessage.Divide = Asked.Computes Arithmetic.Divide
+asked NumberMessage.FloorDivide = Asked.Computes Arithmetic.FloorDivide
+asked NumberMessage.FloorModulo = Asked.Computes Arithmetic.Modulo
+asked NumberMessage.Quotient = Asked.Computes Arithmetic.Quo
+asked NumberMessage.Remainder = Asked.Computes Arithmetic.Rem
+asked NumberMessage.Less = Asked.Computes Arithmetic.Less
+asked NumberMessage.Greater = Asked.Computes Arithmetic.Greater
+asked NumberMessage.LessOrEqual = Asked.Computes Arithmetic.LessOrEqual
+asked NumberMessage.GreaterOrEqual = Asked.Computes Arithmetic.GreaterOrEqual
+asked NumberMessage.Equal = Asked.Computes Arithmetic.Equal
+asked NumberMessage.Negated = Asked.Computes Arithmetic.Negated
+asked NumberMessage.Abs = Asked.Computes Arithmetic.Abs
+asked NumberMessage.Sign = Asked.Computes Arithmetic.Sign
+asked NumberMessage.Even = Asked.Computes Arithmetic.Even
+asked NumberMessage.Odd = Asked.Computes Arithmetic.Odd
+asked NumberMessage.IsZero = Asked.Computes Arithmetic.IsZero
+asked NumberMessage.Max = Asked.Computes Arithmetic.Max
+asked NumberMessage.Min = Asked.Computes Arithmetic.Min
+asked NumberMessage.Gcd = Asked.Computes Arithmetic.Gcd
+asked NumberMessage.Lcm = Asked.Computes Arithmetic.Lcm
+asked NumberMessage.BitAnd = Asked.Computes Arithmetic.BitAnd
+asked NumberMessage.BitOr = Asked.Computes Arithmetic.BitOr
+asked NumberMessage.BitXor = Asked.Computes Arithmetic.BitXor
+asked NumberMessage.BitShift = Asked.Computes Arithmetic.BitShift
+asked NumberMessage.Numerator = Asked.Computes Arithmetic.Numerator
+asked NumberMessage.Denominator = Asked.Computes Arithmetic.Denominator
+asked NumberMessage.Truncated = Asked.Computes Arithmetic.Truncated
+asked NumberMessage.Reciprocal = Asked.Computes Arithmetic.Reciprocal
+asked NumberMessage.AsString = Asked.AsString
+asked NumberMessage.PrintRadix = Asked.PrintRadix
+asked NumberMessage.To = Asked.To
+asked NumberMessage.ToBy = Asked.ToBy
+asked NumberMessage.FromNumerator = Asked.FromNumerator
 
-abbrev pub or_zero : Option Ratio → Ratio
-or_zero (Some a) = a
-or_zero None = whole (pos 0)
+abbrev pub number_at : Program → Store → Asked → Value → List Value → Action
+number_at p s (Asked.Computes m) r args = arithmetic_action s m r args
+number_at p s Asked.AsString r args = makes_string (print_text p s r) s
+number_at p s Asked.PrintRadix r args = with_integer (first args) (λ radix. in_radix s (integer_of r) radix)
+number_at p s Asked.To r args = to_action s r (first args)
+number_at p s Asked.ToBy r args = to_by_action s r (first args) (second args)
+number_at p s Asked.FromNumerator r args = with_integer (first args) (λ n. with_integer (second args) (λ d. arithmetic_action s Arithmetic.Divide (Integer n) (Integer d ∷ [])))
 
 unfoldable pub number_action : Program → Store → NumberMessage → Value → List Value → Action
-number_action p s m r args = number_at p s m r (or_zero (ratio_of s r)) args
+number_action p s m r args = number_at p s (asked m) r args

@@ -1,0 +1,9 @@
+pub mod SoundObjects
+pub mod SoundRows
+pub mod Later
+pub mod SoundVisits
+pub mod Meets
+pub mod TableRows
+pub mod SoundSends
+pub mod SoundMachine
+pub mod SoundRun

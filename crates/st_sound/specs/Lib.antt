@@ -1,0 +1,7 @@
+pub mod SoundStore
+pub mod Receivers
+pub mod Requests
+pub mod SoundActions
+pub mod KnownCollections
+pub mod RowsFit
+pub mod SoundRun
