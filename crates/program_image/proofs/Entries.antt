@@ -1,18 +1,20 @@
 -- The entries of the table, and what is first among them.
-use Rattle.std.proofs.Common.{◌≡◌, ℕ, suc, ◌+◌, ◌<◌, ◌≤◌, Bool, true, false, ◌&&◌, List, [], ◌∷◌, ◌++◌, map, drop, length, get_or, Option, Some, None, refl, ap, sym, ◌∙◌, subst, arith, nat_eq}
+use Rattle.std.proofs.Common.{◌≡◌, ℕ, suc, ◌+◌, ◌<◌, ◌≤◌, Bool, true, false, ◌&&◌, ◌||◌, List, [], ◌∷◌, ◌++◌, map, drop, length, get_or, Option, Some, None, refl, ap, sym, ◌∙◌, subst, arith, nat_eq, nat_lt}
 use Rattle.std.specs.Option.{option_map}
 use Rattle.std.proofs.Math.Seq.{drop-cons}
-use Rattle.std.proofs.lemmas.List.{drop_all, append_assoc, append-nil}
+use Rattle.std.specs.Str.{bytes_eq}
+use Rattle.std.specs.List.{list_any}
+use Rattle.std.proofs.lemmas.Bool.{ne_eqb, ltb-true, ltb-false}
+use Rattle.std.proofs.lemmas.List.{drop_all, append_assoc, append-nil, get_or_past}
+use Rattle.std.proofs.lemmas.Slice.Eq.{bytes_eq-Decides}
 use Rattle.st_base.specs.BuiltIns as base
 use Rattle.st_base.specs.declared.builtins.BuiltInMessage.{BuiltInMessage as BaseMessage}
 use Rattle.st_tree.specs.declared.units.Unit.{Unit}
 use Rattle.st_code.specs.Texts.{Text, same_text}
 use Rattle.st_code.specs.Program.{MethodRow, OfInstance, OfClass, OfMeta, Side as OnSide, same_side as same_on, name_at}
-use Rattle.st_code.specs.Named.{NamedUnit, ClassUnit, GlobalUnit, PoolVariableUnit, InitializerUnit, PoolInitializerUnit, ProgramUnit, MethodUnit, ClassMethodUnit}
-use Rattle.st_code.specs.Definitions.{declared_unit, declared_units, names_of, built_in_names}
 use Rattle.st_code.specs.Written.{named_unit, named_units}
-use Rattle.st_code.specs.Resolved.{Names}
-use Rattle.st_code.specs.BuiltIns.{built_in_class_rows, BuiltInMessage, numbered_messages, is_message, place_of_message, message_number}
+use Rattle.st_code.specs.Resolved.{Names, number_or_last}
+use Rattle.st_code.specs.BuiltIns.{BuiltInMessage, numbered_messages, is_message, place_of_message, message_number}
 use Rattle.st_code.specs.Lookup.{Level, level, is_method, method_at}
 use Rattle.st_code.proofs.Tables.{base_message, method_side, messages-base}
 use Rattle.program_image.specs.declared.table.Side.{Side}
@@ -21,10 +23,11 @@ use Rattle.program_image.specs.declared.table.Found.{Found}
 use Rattle.program_image.specs.declared.table.Found.TheVariants as found
 use Rattle.program_image.specs.declared.table.Key.{Key}
 use Rattle.program_image.specs.declared.table.Entry.{Entry}
-use Rattle.program_image.specs.Spelled.{names_in}
+use Rattle.program_image.specs.Spelled.{selector_of}
 use Rattle.program_image.specs.Tables.{same_side, same_key, first_found}
 use Rattle.program_image.specs.Images.{image_names, image_methods, image_program, method_here, methods_from, with_method, on_side, off_side, key_at, method_entry, message_side, message_entry, message_entries, entries_with, found_here, image_found_at}
 use Rattle.program_image.proofs.Numbers.{IsDistinct, names-distinct, number-is}
+use Rattle.program_image.proofs.There.{image-spelled, number-low, selector-there}
 
 -- ---- loops that add entries
 
@@ -221,37 +224,82 @@ here-is : (units : List Unit) (l : Level) (selector : ℕ) (o : Option ℕ) (q :
 here-is units l selector None q is = is
 here-is units l selector (Some place) q is = refl
 
-names-kept : (x : Names) (units : List NamedUnit) → (declared_units x units).names ≡ x.names
-names-kept x [] = refl
-names-kept x (u ∷ units) = names-kept (declared_unit x u) units ∙ one-kept x u
-  where
-    one-kept : (x : Names) (u : NamedUnit) → (declared_unit x u).names ≡ x.names
-    one-kept x (ClassUnit c) = refl
-    one-kept x (GlobalUnit name) = refl
-    one-kept x (PoolVariableUnit pool name) = refl
-    one-kept x (InitializerUnit target b) = refl
-    one-kept x (PoolInitializerUnit pool name b) = refl
-    one-kept x (ProgramUnit b) = refl
-    one-kept x (MethodUnit class m) = refl
-    one-kept x (ClassMethodUnit class m) = refl
-
-image-names : (units : List Unit) → (image_names units).names ≡ names_in (named_units units)
-unfolding image_names names_of
-image-names units = names-kept (record { names = names_in (named_units units); classes = map built_in_names built_in_class_rows; shared = [] }) (named_units units)
-
 by-number : (units : List Unit) (selector : ℕ) (on : Side) (class : ℕ) → selector < length (image_names units).names
     → first_found (message_entries (image_names units).names 0 base.messages) (key_at selector on class) ≡ option_map found.BuiltIn (message_number class (on_side on) (name_at (image_program units) selector))
 unfolding message_number name_at image_program
 by-number units selector on class low =
-    let apart : IsDistinct (image_names units).names = subst IsDistinct (sym (image-names units)) (names-distinct (named_units units)) in
+    let apart : IsDistinct (image_names units).names = subst IsDistinct (sym (image-spelled units)) (names-distinct (named_units units)) in
     ap (λ ms. first_found (message_entries (image_names units).names 0 ms) (key_at selector on class)) (sym messages-base)
     ∙ first-message (image_names units).names selector on class apart low numbered_messages 0 two-sides
 
+-- ---- a selector beyond the names has no message
+
+-- each selector is among the names
+abbrev AreThere : List Text → List base.MessageRow → Type 0
+AreThere names rows = (t : Text) → list_any (bytes_eq t) (map selector_of rows) ≡ true → list_any (bytes_eq t) names ≡ true
+
+true-or : (b c : Bool) → b ≡ true → (b || c) ≡ true
+true-or b c is = ap (λ a. a || c) is
+
+or-last-true : (b c : Bool) → c ≡ true → (b || c) ≡ true
+or-last-true true c is = refl
+or-last-true false c is = is
+
+no-entry : (names : List Text) (selector : ℕ) (on : Side) (class : ℕ) → length names ≤ selector → (rows : List base.MessageRow) (n : ℕ) → AreThere names rows
+    → first_found (message_entries names n rows) (key_at selector on class) ≡ None
+unfolding first_found
+no-entry names selector on class far [] n there = refl
+no-entry names selector on class far (m ∷ rows) n there =
+    let low : number_or_last names m.selector < length names = number-low names m.selector (there m.selector (true-or (bytes_eq m.selector m.selector) (list_any (bytes_eq m.selector) (map selector_of rows)) ((bytes_eq-Decides m.selector m.selector).1 refl))) in
+    let other : nat_eq (number_or_last names m.selector) selector ≡ false = ne_eqb (number_or_last names m.selector) selector (λ e. let none : ⊥ = omega (arith, e, low, far) in none) in
+    ap (λ b. elim (b && (same_side (message_side m.side) on && nat_eq m.class class)) [ true ↦ Some (found.BuiltIn n) | false ↦ first_found (message_entries names (suc n) rows) (key_at selector on class) ]) other
+    ∙ no-entry names selector on class far rows (suc n) (λ t is. there t (or-last-true (bytes_eq t m.selector) (list_any (bytes_eq t) (map selector_of rows)) is))
+
+abbrev all_spelled : List BuiltInMessage → Bool
+all_spelled [] = true
+all_spelled (m ∷ messages) = elim (same_text m.selector []) [ true ↦ false | false ↦ all_spelled messages ]
+
+are-spelled : all_spelled numbered_messages ≡ true
+unfolding numbered_messages same_text
+are-spelled = refl
+
+and-false : (a b : Bool) → b ≡ false → (a && b) ≡ false
+and-false true b is = is
+and-false false b is = refl
+
+not-spelled : (b c : Bool) → elim b [ true ↦ false | false ↦ c ] ≡ true → (b ≡ false) × (c ≡ true)
+not-spelled true c is = absurd (grind (arith, is))
+not-spelled false c is = (refl, is)
+
+no-place : (class : ℕ) (on : OnSide) (rows : List BuiltInMessage) (n : ℕ) → all_spelled rows ≡ true → place_of_message n rows class on [] ≡ None
+no-place class on [] n is = refl
+no-place class on (m ∷ rows) n is =
+    let both : (same_text m.selector [] ≡ false) × (all_spelled rows ≡ true) = not-spelled (same_text m.selector []) (all_spelled rows) is in
+    ap (λ b. elim b [ true ↦ Some n | false ↦ place_of_message (suc n) rows class on [] ]) (and-false (nat_eq m.class class && same_on m.side on) (same_text m.selector []) both.0)
+    ∙ no-place class on rows (suc n) both.1
+
+by-none : (units : List Unit) (selector : ℕ) (on : Side) (class : ℕ) → length (image_names units).names ≤ selector
+    → first_found (message_entries (image_names units).names 0 base.messages) (key_at selector on class) ≡ option_map found.BuiltIn (message_number class (on_side on) (name_at (image_program units) selector))
+unfolding message_number name_at image_program
+by-none units selector on class far =
+    no-entry (image_names units).names selector on class far base.messages 0 (selector-there units)
+    ∙ sym (ap (λ (t : Text). option_map found.BuiltIn (place_of_message 0 numbered_messages class (on_side on) t)) (get_or_past (image_names units).names selector [] far)
+    ∙ ap (option_map found.BuiltIn) (no-place class (on_side on) numbered_messages 0 are-spelled))
+
+by-any : (units : List Unit) (selector : ℕ) (on : Side) (class : ℕ)
+    → first_found (message_entries (image_names units).names 0 base.messages) (key_at selector on class) ≡ option_map found.BuiltIn (message_number class (on_side on) (name_at (image_program units) selector))
+by-any units selector on class = step (nat_lt selector (length (image_names units).names)) refl
+  where
+    step : (b : Bool) → nat_lt selector (length (image_names units).names) ≡ b
+        → first_found (message_entries (image_names units).names 0 base.messages) (key_at selector on class) ≡ option_map found.BuiltIn (message_number class (on_side on) (name_at (image_program units) selector))
+    step true is = by-number units selector on class (ltb-true selector (length (image_names units).names) is)
+    step false is = by-none units selector on class (ltb-false selector (length (image_names units).names) is)
+
 -- an entry is found as lookup finds it at one class and side
-pub entry-found : (units : List Unit) (selector : ℕ) (on : Side) (class : ℕ) → selector < length (image_names units).names
+pub entry-found : (units : List Unit) (selector : ℕ) (on : Side) (class : ℕ)
     → first_found (entries_with (image_names units) units) (key_at selector on class) ≡ image_found_at units (level (on_side on) class) selector
 unfolding entries_with image_methods
-entry-found units selector on class low =
+entry-found units selector on class =
     first-append (map method_entry (methods_from (image_names units) 0 units)) (message_entries (image_names units).names 0 base.messages) (key_at selector on class)
     ∙ ap (λ o. or_found o (first_found (message_entries (image_names units).names 0 base.messages) (key_at selector on class))) (first-method (methods_from (image_names units) 0 units) selector on class)
-    ∙ here-is units (level (on_side on) class) selector (method_at (methods_from (image_names units) 0 units) (level (on_side on) class) selector) (first_found (message_entries (image_names units).names 0 base.messages) (key_at selector on class)) (by-number units selector on class low)
+    ∙ here-is units (level (on_side on) class) selector (method_at (methods_from (image_names units) 0 units) (level (on_side on) class) selector) (first_found (message_entries (image_names units).names 0 base.messages) (key_at selector on class)) (by-any units selector on class)

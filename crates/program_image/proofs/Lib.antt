@@ -5,7 +5,9 @@ pub mod Declared
 pub mod Order
 pub mod Firsts
 pub mod Numbers
+pub mod There
 pub mod Walks
+pub mod FirstClasses
 pub mod Entries
 pub mod Lookups
 pub mod FindingAlike

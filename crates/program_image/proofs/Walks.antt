@@ -1,6 +1,9 @@
 -- The walk over superclasses, which have smaller numbers.
 use Rattle.std.proofs.Common.{◌≡◌, ℕ, zero, suc, ◌+◌, ◌<◌, Bool, true, false, ◌&&◌, List, [], ◌∷◌, ◌++◌, map, length, Option, Some, None, IfSome, refl, ap, sym, ◌∙◌, arith, nat_eq, nat_lt}
 use Rattle.std.proofs.lemmas.Bool.{ltb-true, lt-ltb, eq-eqb, eqb-true}
+use Rattle.std.specs.List.{slice_get}
+use Rattle.std.specs.Option.{unwrap_or}
+use Rattle.std.proofs.lemmas.Option.{get_or_from_slice_get, unwrap_or-slice_get}
 use Rattle.std.proofs.Math.ListN.{get_or-map}
 use Rattle.st_tree.specs.declared.units.Unit.{Unit}
 use Rattle.st_code.specs.Texts.{Text}
@@ -89,6 +92,13 @@ image-falls units =
 pub class-at : (units : List Unit) (i : ℕ) → class_at (image_program units) i ≡ (class_names_at (image_names units).classes i).row
 unfolding image_program class_at
 class-at units i = get_or-map class_row (image_names units).classes i no_names
+
+-- the row of a class that is there, and of one that isn't
+pub row-some : (units : List Unit) (class : ℕ) (c : ClassNames) → Some c ≡ slice_get (image_names units).classes class → class_at (image_program units) class ≡ c.row
+row-some units class c is = class-at units class ∙ ap (λ (x : ClassNames). x.row) (get_or_from_slice_get (image_names units).classes class c no_names (sym is))
+
+pub row-none : (units : List Unit) (class : ℕ) → None ≡ slice_get (image_names units).classes class → class_at (image_program units) class ≡ no_names.row
+row-none units class is = class-at units class ∙ ap (λ (x : ClassNames). x.row) (sym (unwrap_or-slice_get (image_names units).classes class no_names) ∙ ap (λ (o : Option ClassNames). unwrap_or o no_names) (sym is))
 
 pub image-lower : (units : List Unit) (i s : ℕ) → (class_at (image_program units) i).superclass ≡ Some s → s < i
 image-lower units i s is = superclass-lower (image_names units).classes i s (image-falls units) (sym (ap (λ r. r.superclass) (class-at units i)) ∙ is)

@@ -1,7 +1,8 @@
 // The classes and variables that the units of a file declare, by number.
-ghost use Rattle.std.specs.Prelude.{◌≡◌, ◌<◌, ◌^◌, ◌++◌, [], ◌∷◌, length, map, IfOk, IfSome, OnOk, OnErr};
+ghost use Rattle.std.specs.Prelude.{◌≡◌, ◌<◌, ◌^◌, ◌++◌, [], ◌∷◌, length, map, slice_get, IfOk, IfSome, OnOk, OnErr};
+ghost use Rattle.std.specs.Option.{option_map};
 ghost use Rattle.st_code.specs.Written.{named_class, named_unit};
-ghost use Rattle.st_code.specs.Resolved.{ClassName, ClassInstanceName, class_in, class_names_at, number_or_last};
+ghost use Rattle.st_code.specs.Resolved.{ClassName, ClassInstanceName, class_in, number_or_last};
 ghost use Rattle.st_code.specs.Definitions.{built_in_names, class_variables, declared_class, or_zero, with_shared};
 ghost use Rattle.st_code.specs.BuiltIns.{built_in_class_rows};
 ghost use Rattle.program_image.specs.Images.{image_names};
@@ -184,29 +185,11 @@ impl Declarations {
         class_place(self.classes.as_slice(), name)
     }
 
-    /// The number of the superclass of a class.
-    pub(crate) fn superclass(&self, class: u32) -> Option<u32>
-        requires { class < length self.now.classes }
-        ensures value { result ≡ (class_names_at self.now.classes class).row.superclass }
-        ensures there { IfSome result (λ above. above < class) }
+    /// A class by its number. None where there is none.
+    pub(crate) fn class(&self, class: u32) -> Option<&Class>
+        ensures { option_map (λ c. seen_class c.now) result ≡ slice_get self.now.classes class }
     {
-        self.classes.as_slice()[class as usize].superclass
-    }
-
-    /// A class by its number.
-    pub(crate) fn class(&self, class: u32) -> &Class
-        requires { class < length self.now.classes }
-        ensures { seen_class result.now ≡ class_names_at self.now.classes class }
-    {
-        &self.classes.as_slice()[class as usize]
-    }
-
-    /// The name of a class.
-    pub(crate) fn class_name(&self, class: u32) -> &[u8]
-        requires { class < length self.now.classes }
-        ensures { result.now ≡ (class_names_at self.now.classes class).row.name }
-    {
-        self.classes.as_slice()[class as usize].name.as_bytes()
+        self.classes.as_slice().get(class as usize)
     }
 
     /// The number of a selector or symbol, one past the last where it isn't there.

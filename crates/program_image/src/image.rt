@@ -1,9 +1,10 @@
 // The image of a program.
-ghost use Rattle.std.specs.Prelude.{◌≡◌, ◌<◌, [], ◌∷◌, length, map, IfOk, IfSome};
+ghost use Rattle.std.specs.Prelude.{◌≡◌, ◌<◌, [], ◌∷◌, length, map, slice_get, IfOk, IfSome};
 ghost use Rattle.std.specs.Option.{option_map};
 ghost use Rattle.st_code.specs.Program.{OfInstance, class_at};
 ghost use Rattle.st_code.specs.BuiltIns.{object_class};
-ghost use Rattle.st_code.specs.Resolved.{class_in, class_names_at};
+ghost use Rattle.st_code.specs.Written.{indexed_by};
+ghost use Rattle.st_code.specs.Resolved.{class_in};
 ghost use Rattle.st_code.specs.Lookup.{level, superclasses, inherits, lookup};
 ghost use Rattle.program_image.specs.Classes.{seen_class, seen_variable};
 ghost use Rattle.program_image.specs.Images.{image_names, image_program, on_side, image_found_at, image_found_in, image_lookup, as_row};
@@ -14,7 +15,7 @@ use crate::methods::entries_of;
 use crate::table::{Found, Key, MethodTable, Side};
 use st_base::OutOfMemory;
 use st_names::Names;
-use st_tree::units::Definition;
+use st_tree::units::{Definition, Indexed};
 use std::alloc::Global;
 use std::marker::Model;
 
@@ -109,25 +110,76 @@ impl Image {
         self.declarations.class_number(name)
     }
 
-    /// A class by its number.
-    pub fn class(&self, class: u32) -> &Class
-        requires { class < length (image_names self.now).classes }
-        ensures { seen_class result.now ≡ class_names_at (image_names self.now).classes class }
+    /// A class by its number. None where there is none.
+    pub fn class(&self, class: u32) -> Option<&Class>
+        ensures { option_map (λ c. seen_class c.now) result ≡ slice_get (image_names self.now).classes class }
     {
         self.declarations.class(class)
     }
 
-    /// The name of a class.
+    /// The name of a class, empty where there is none.
     pub fn class_name(&self, class: u32) -> &[u8]
-        requires { class < length (image_names self.now).classes }
         ensures { result.now ≡ (class_at (image_program self.now) class).name }
     {
-        self.declarations.class_name(class)
+        match self.class(class) {
+            Some(class) => class.name.as_bytes(),
+            None => &[],
+        }
+    }
+
+    /// The number of the superclass of a class. `Object` has none.
+    pub fn superclass(&self, class: u32) -> Option<u32>
+        ensures value { result ≡ (class_at (image_program self.now) class).superclass }
+        ensures there { IfSome result (λ above. above < class) }
+    {
+        match self.class(class) {
+            Some(class) => class.superclass,
+            None => None,
+        }
+    }
+
+    /// Whether the file declares a class.
+    pub fn is_in_file(&self, class: u32) -> bool
+        ensures { result ≡ (class_at (image_program self.now) class).in_file }
+    {
+        match self.class(class) {
+            Some(class) => class.in_file,
+            None => false,
+        }
+    }
+
+    /// How the instances of a class are indexed.
+    pub fn indexed(&self, class: u32) -> Indexed
+        ensures { indexed_by result ≡ (class_at (image_program self.now) class).indexed }
+    {
+        match self.class(class) {
+            Some(class) => class.indexed,
+            None => Indexed::None,
+        }
+    }
+
+    /// How many named slots the instances of a class have.
+    pub fn slots(&self, class: u32) -> u32
+        ensures { result ≡ (class_at (image_program self.now) class).slots }
+    {
+        match self.class(class) {
+            Some(class) => class.slots,
+            None => 0,
+        }
+    }
+
+    /// The place of the first class instance variable of a class among the program's variables.
+    pub fn class_slots(&self, class: u32) -> u32
+        ensures { result ≡ (class_at (image_program self.now) class).class_slots }
+    {
+        match self.class(class) {
+            Some(class) => class.class_slots,
+            None => 0,
+        }
     }
 
     /// Whether a class is the other one or stands under it.
     pub fn inherits(&self, class: u32, ancestor: u32) -> bool
-        requires { class < length (image_names self.now).classes }
         ensures { result ≡ inherits (image_program self.now) class ancestor }
     {
         let mut at = class;
@@ -135,7 +187,7 @@ impl Image {
             if at == ancestor {
                 return true;
             }
-            match self.declarations.superclass(at) {
+            match self.superclass(at) {
                 Some(above) => at = above,
                 None => return false,
             }
@@ -144,7 +196,6 @@ impl Image {
 
     // What a class itself has on this side.
     fn found_at(&self, side: Side, class: u32, selector: u32) -> Option<Found>
-        requires { selector < length (image_names self.now).names }
         ensures { result ≡ image_found_at self.now (level (on_side side) class) selector }
     {
         self.table.find(Key {
@@ -156,8 +207,6 @@ impl Image {
 
     // What a class and those above it have on this side.
     fn found_up(&self, side: Side, class: u32, selector: u32) -> Option<Found>
-        requires class { class < length (image_names self.now).classes }
-        requires selector { selector < length (image_names self.now).names }
         ensures { result ≡ image_found_in self.now (map (level (on_side side)) (superclasses (image_program self.now) class)) selector }
     {
         let mut at = class;
@@ -165,7 +214,7 @@ impl Image {
             if let Some(found) = self.found_at(side, at, selector) {
                 return Some(found);
             }
-            match self.declarations.superclass(at) {
+            match self.superclass(at) {
                 Some(above) => at = above,
                 None => return None,
             }
@@ -174,7 +223,6 @@ impl Image {
 
     // What the instances of a class and of `Object` have.
     fn found_behind(&self, class: u32, selector: u32) -> Option<Found>
-        requires { selector < length (image_names self.now).names }
         ensures { result ≡ image_found_in self.now (level OfInstance class ∷ level OfInstance object_class ∷ []) selector }
     {
         match self.found_at(Side::Instance, class, selector) {
@@ -185,8 +233,6 @@ impl Image {
 
     // What the walk from a class on a side finds.
     fn found_on_walk(&self, side: Side, class: u32, selector: u32) -> Option<Found>
-        requires class { class < length (image_names self.now).classes }
-        requires selector { selector < length (image_names self.now).names }
         ensures { result ≡ image_lookup self.now side class selector }
     {
         match side {
@@ -204,8 +250,6 @@ impl Image {
     /// it ends at class `Class` and `Object`, and for a metaclass it is `Metaclass` and `Object`.
     /// None where no class on the walk has the selector.
     pub fn lookup(&self, side: Side, class: u32, selector: u32) -> Option<Found>
-        requires class { class < length (image_names self.now).classes }
-        requires selector { selector < length (image_names self.now).names }
         ensures number { result ≡ image_lookup self.now side class selector }
         ensures row { option_map as_row result ≡ lookup (image_program self.now) (level (on_side side) class) selector }
     {

@@ -96,11 +96,7 @@ fn accounts(alloc: Global) -> Result<Image, OutOfMemory> {
 
 fn find(image: &Image, side: Side, class: &[u8], selector: &[u8]) -> Option<Found> {
     let class = image.class_number(class)?;
-    let selector = image.names().find(selector)?;
-    if selector >= image.names().len() {
-        return None;
-    }
-    image.lookup(side, class, selector)
+    image.lookup(side, class, image.names().find(selector)?)
 }
 
 // The number of the class whose built-in message is found.

@@ -1,6 +1,4 @@
 mod Walked
-mod Classes
-mod Absent
 mod Plain
 mod Searches
 pub mod Alike

@@ -7,7 +7,7 @@ ghost use Rattle.program_image.specs.Images.{image_names, image_program};
 ghost use Rattle.st_contexts.specs.Stack.{env_in};
 ghost use Rattle.signal_env.specs.Searches.{class_fits, some_fits, search_in};
 
-use crate::lookups::{found_for, inherits, selector_number};
+use crate::lookups::{found_for, selector_number};
 use object_heap::{Heap, Value};
 use program_image::{Found, Image};
 use st_contexts::{Contexts, Entry, Env};
@@ -56,8 +56,7 @@ pub fn find_handler<H: Heap>(
 /// Whether a selector of `on:do:` answers `handles:` by a built-in message. `handles` is the number
 /// of that selector.
 pub fn is_plain<H: Heap>(heap: &H, image: &Image, handles: u32, selector: Value) -> bool
-    requires selector { handles ≡ number_of (image_program image.now) (codes "handles:") }
-    requires there { handles < length (image_names image.now).names }
+    requires { handles ≡ number_of (image_program image.now) (codes "handles:") }
     ensures { result ≡ code.is_plain (image_program image.now) (H.meaning heap.now).store selector }
 {
     match found_for(image, heap, selector, handles) {
@@ -73,7 +72,7 @@ pub fn fits<H: Heap>(heap: &H, image: &Image, selector: Value, class: u32) -> bo
     ensures { result ≡ code.fits (image_program image.now) (H.meaning heap.now).store selector class }
 {
     match selector {
-        Value::Class(ancestor) => inherits(image, class, ancestor),
+        Value::Class(ancestor) => image.inherits(class, ancestor),
         Value::Object(set) => fits_some(heap, image, set, class),
         _ => false,
     }
@@ -95,7 +94,7 @@ fn fits_class(image: &Image, value: Value, class: u32) -> bool
     ensures { result ≡ class_fits (image_program image.now) class value }
 {
     match value {
-        Value::Class(ancestor) => inherits(image, class, ancestor),
+        Value::Class(ancestor) => image.inherits(class, ancestor),
         _ => false,
     }
 }

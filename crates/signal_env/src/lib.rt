@@ -9,5 +9,5 @@ mod tests;
 mod turns;
 
 pub use handlers::{Search, find_handler, fits, is_plain};
-pub use lookups::{found_for, inherits, selector_number};
+pub use lookups::{found_for, selector_number};
 pub use turns::{FoundTurn, innermost_turn, is_live};

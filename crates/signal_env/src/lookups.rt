@@ -21,8 +21,6 @@ const CHARACTER: u32 = 7;
 
 const SYMBOL: u32 = 10;
 
-const CLASS: u32 = 20;
-
 const TRANSCRIPT_WRITER: u32 = 22;
 
 // A side of a class, where a lookup begins.
@@ -47,11 +45,10 @@ pub fn selector_number(image: &Image, selector: &[u8]) -> u32
 /// The method or built-in message that a receiver finds for a selector (ANSI NCITS 319, 3.3), in
 /// the image and the heap that it belongs to. None where no class on its walk has the selector.
 pub fn found_for<H: Heap>(image: &Image, heap: &H, receiver: Value, selector: u32) -> Option<Found>
-    requires { selector < length (image_names image.now).names }
     ensures { option_map as_row result ≡ code.lookup (image_program image.now) (code.level_of (H.meaning heap.now).store receiver) selector }
 {
     let level = level_of(heap, receiver);
-    found_from(image, level, selector)
+    image.lookup(level.side, level.class, selector)
 }
 
 // Where a receiver's lookup begins.
@@ -86,29 +83,4 @@ fn instance(class: u32) -> Level
         side: Side::Instance,
         class,
     }
-}
-
-// What a lookup from a level finds. A class that isn't there has no messages of its own.
-fn found_from(image: &Image, level: Level, selector: u32) -> Option<Found>
-    requires { selector < length (image_names image.now).names }
-    ensures { option_map as_row result ≡ code.lookup (image_program image.now) (code.level (on_side level.side) level.class) selector }
-{
-    if level.class < image.class_count() {
-        return image.lookup(level.side, level.class, selector);
-    }
-    match level.side {
-        Side::Instance => None,
-        Side::Class => image.lookup(Side::Instance, CLASS, selector),
-        Side::Meta => image.lookup(Side::Meta, CLASS, selector),
-    }
-}
-
-/// Whether a class is the other one or stands under it. A class that isn't there has no superclass.
-pub fn inherits(image: &Image, class: u32, ancestor: u32) -> bool
-    ensures { result ≡ code.inherits (image_program image.now) class ancestor }
-{
-    if class < image.class_count() {
-        return image.inherits(class, ancestor);
-    }
-    class == ancestor
 }

@@ -1,5 +1,5 @@
 -- The items of a new collection, by their places from 0, and the object that holds them.
-use Rattle.std.specs.Prelude.{ℕ, ◌+◌, ◌-◌, ◌*◌, ◌<◌, ◌≤◌, ◌^◌, Bool, false, List, [], map, length, nat_eq, nat_lt, ◌||◌, ◌≡◌, if◌then◌else◌}
+use Rattle.std.specs.Prelude.{ℕ, ◌+◌, ◌-◌, ◌*◌, ◌<◌, ◌≤◌, ◌^◌, Bool, true, false, not, List, [], map, length, nat_eq, nat_lt, ◌||◌, ◌≡◌, if◌then◌else◌}
 use Rattle.std.specs.List.{range_with_len}
 use Rattle.object_heap.specs.declared.value.Value.{Value}
 use Rattle.object_heap.specs.declared.value.Value.TheVariants.{Character, Object}
@@ -19,6 +19,11 @@ use Rattle.st_collections.specs.SequenceRows.{all_values, byte_in, is_byte, is_c
 abbrev pub IsMeasured : Store → Value → Type 0
 IsMeasured s (Object n) = (object_at n s).class ≡ interval_class → size_at interval_class (object_at n s).slots (object_at n s).bytes < 2 ^ 127
 IsMeasured s v = Unit {0}
+
+-- the same as a test
+unfoldable pub is_measured : Store → Value → Bool
+is_measured s (Object n) = not (nat_eq (object_at n s).class interval_class) || nat_lt (size_at interval_class (object_at n s).slots (object_at n s).bytes) (2 ^ 127)
+is_measured s v = true
 
 -- a Character with another byte
 abbrev pub cased : (ℕ → ℕ) → Value → Value

@@ -3,7 +3,8 @@ use Rattle.std.specs.Prelude.{ℕ, ◌+◌, ◌-◌, ℤ, pos, negsuc, Bool, tru
 use Rattle.object_heap.specs.declared.value.Value.{Value}
 use Rattle.object_heap.specs.declared.value.Value.TheVariants.{Nil, True, False, Integer, Character, Symbol, Class, Meta, Object}
 use Rattle.object_heap.specs.declared.trouble.Trouble.TheVariants.{WrongNumberOfArguments, IndexOutOfRange, NumberExpected, BooleanExpected, ByteExpected, CollectionExpected, SymbolExpected, NotIndexed, CannotBeInstantiated, SubclassResponsibility}
-use Rattle.object_heap.specs.Store.{Store, Object as HeapObject, object_at, object_added, with_slot, with_byte}
+use Rattle.object_heap.specs.declared.value.Closure.{Closure}
+use Rattle.object_heap.specs.Store.{Store, Object as HeapObject, block_added, closure_at, object_at, object_added, with_slot, with_byte}
 use Rattle.object_heap.specs.Charges.{object_charge}
 use Rattle.st_code.specs.Texts.{arity}
 use Rattle.st_code.specs.Program.{Program, Indexed, NoIndexes, ByObject, ByByte, Side, OfInstance, OfClass, same_side, class_at, name_at, number_of}
@@ -27,15 +28,13 @@ abbrev responds_to : Program → Store → Value → Value → Action
 responds_to p s r (Symbol name) = Gives (boolean (is_some (lookup p (level_of s r) name)))
 responds_to p s r v = Fails SymbolExpected
 
--- a copy is one level deep and never read-only; that of a block has the same closure
-abbrev copied : Store → HeapObject → Action
-copied s o = elim o.closure [
-  | None ↦ Makes (object_charge (length o.slots) (length o.bytes)) (object_added (record { class = o.class; slots = o.slots; bytes = o.bytes; capacity = length o.slots; read_only = false; closure = None }) s) (next_object s)
-  | Some number ↦ Makes 2 (object_added (record { class = o.class; slots = []; bytes = []; capacity = 0; read_only = false; closure = Some number }) s) (next_object s)
-]
+-- a copy is one level deep and never read-only; that of a block is a new block with the same closure
+abbrev pub copied : Store → HeapObject → Option Closure → Action
+copied s o None = Makes (object_charge (length o.slots) (length o.bytes)) (object_added (record { class = o.class; slots = o.slots; bytes = o.bytes; capacity = length o.slots; read_only = false; closure = None }) s) (next_object s)
+copied s o (Some closure) = Makes 2 (block_added o.class closure s) (next_object s)
 
-abbrev copy : Store → Value → Action
-copy s (Object number) = copied s (object_at number s)
+abbrev pub copy : Store → Value → Action
+copy s (Object number) = copied s (object_at number s) (closure_at number s)
 copy s v = Gives v
 
 abbrev display : Program → Store → Value → Action

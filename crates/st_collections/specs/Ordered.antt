@@ -1,5 +1,5 @@
 -- OrderedCollections as they stand, and the room that more elements ask for.
-use Rattle.std.specs.Prelude.{ℕ, ◌+◌, ◌*◌, ◌≤◌, ◌≡◌, max, false, List, ◌++◌, length, get_or, nat_eq, nat_le, nat_lt, Result, Ok, Err, if◌then◌else◌}
+use Rattle.std.specs.Prelude.{ℕ, ◌+◌, ◌*◌, ◌≤◌, ◌≡◌, max, Bool, true, false, not, ◌&&◌, List, ◌++◌, length, get_or, nat_eq, nat_le, nat_lt, Result, Ok, Err, if◌then◌else◌}
 use Rattle.object_heap.specs.declared.value.Value.{Value}
 use Rattle.object_heap.specs.declared.value.Value.TheVariants.{Nil, Object}
 use Rattle.object_heap.specs.declared.heap.HeapStop.{HeapStop}
@@ -23,6 +23,11 @@ pub record IsOpen (s : Store) (n : ℕ) : Type 0 where
 abbrev pub IsOrdered : Store → Value → Type 0
 IsOrdered s (Object n) = IsOpen s n
 IsOrdered s v = Unit {0}
+
+-- the same as a test
+unfoldable pub is_ordered : Store → Value → Bool
+is_ordered s (Object n) = nat_eq (object_at n s).class ordered_collection_class && not (object_at n s).read_only && nat_le (length (object_at n s).slots) (object_at n s).capacity
+is_ordered s v = true
 
 -- the room for one more element, and the cells that it takes
 abbrev pub room_for_one : (size room : ℕ) → Room

@@ -5,7 +5,7 @@ ghost use Rattle.object_heap.specs.Store.{object_at};
 ghost use Rattle.st_code.specs.BuiltIns.{byte_array_class, interval_class};
 ghost use Rattle.st_code.specs.Program.{name_at};
 ghost use Rattle.st_collections.specs.Answers.{program_of};
-ghost use Rattle.st_collections.specs.Items.{IsMeasured};
+ghost use Rattle.st_collections.specs.Items.{IsMeasured, is_measured};
 ghost use Rattle.st_collections.specs.Kinds.{integer_of, is_a, size_at, size_of, element_at, element, key, slot_of, slots_of};
 ghost use Rattle.st_collections.specs.SequenceRows.{is_byte};
 
@@ -180,8 +180,10 @@ pub fn slots_now<H: Heap>(heap: &H, value: Value) -> u32
 }
 
 /// Whether a value is no Interval of 2^127 elements or more.
+#[tactic(auto, unfolding(crate::specs::Items::is_measured))]
 pub fn is_measured<H: Heap>(heap: &H, value: Value) -> bool
-    ensures { IsTrue result ↔ IsMeasured (H.meaning heap.now).store value }
+    ensures test { result ≡ is_measured (H.meaning heap.now).store value }
+    ensures measured { IsTrue result ↔ IsMeasured (H.meaning heap.now).store value }
 {
     match value {
         Value::Object(object) => {

@@ -28,6 +28,7 @@ pub use elements::is_measured;
 pub use message::{
     CollectionMessage, OfCharacter, OfMaking, OfOrdered, OfPair, OfSequence, OfString,
 };
+pub use ordered::is_ordered;
 
 #[cfg(test)]
 mod tests;

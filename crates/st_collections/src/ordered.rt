@@ -1,5 +1,5 @@
 // Messages of OrderedCollections that add and remove elements.
-ghost use Rattle.std.specs.Prelude.{◌≡◌, ℕ, ◌+◌, ◌-◌, ◌<◌, ◌≤◌, ◌^◌, ◌∷◌, ◌++◌, [], false, get_or, insert, length, IsTrue};
+ghost use Rattle.std.specs.Prelude.{◌≡◌, ◌↔◌, ℕ, ◌+◌, ◌-◌, ◌<◌, ◌≤◌, ◌^◌, ◌∷◌, ◌++◌, [], false, get_or, insert, length, IsTrue};
 ghost use Rattle.object_heap.specs.declared.value.Value.{Value};
 ghost use Rattle.object_heap.specs.Charges.{with_store};
 ghost use Rattle.object_heap.specs.Store.{object_at};
@@ -9,7 +9,7 @@ ghost use Rattle.st_collections.specs.AtOnce.{ordered_action};
 ghost use Rattle.st_collections.specs.Items.{IsMeasured};
 ghost use Rattle.st_collections.specs.Kinds.{size_of, some_elements};
 ghost use Rattle.st_collections.specs.ObjectRows.{indexed};
-ghost use Rattle.st_collections.specs.Ordered.{IsOpen, IsOrdered, all_added, removal, slots_set};
+ghost use Rattle.st_collections.specs.Ordered.{IsOpen, IsOrdered, all_added, is_ordered, removal, slots_set};
 ghost use Rattle.st_collections.specs.SequenceRows.{adds, unless_empty, without_element};
 
 use crate::answer::{Built, answer_stop};
@@ -205,8 +205,10 @@ pub fn ordered_message<H: Heap>(
 }
 
 /// Whether a value is no object or an OrderedCollection as the messages keep it.
+#[tactic(auto, unfolding(crate::specs::Ordered::is_ordered))]
 pub fn is_ordered<H: Heap>(heap: &H, value: Value) -> bool
-    ensures { IsTrue result → IsOrdered (H.meaning heap.now).store value }
+    ensures test { result ≡ is_ordered (H.meaning heap.now).store value }
+    ensures ordered { IsTrue result ↔ IsOrdered (H.meaning heap.now).store value }
 {
     match value {
         Value::Object(object) => {

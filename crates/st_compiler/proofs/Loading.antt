@@ -86,12 +86,17 @@ pub program-initializers : (units : List Unit) (limits : RunLimits) → (program
 unfolding program_of_image program_of image_names
 program-initializers units limits = sym (ap (λ (d : Defined). d.initializers) (file-units (image_names units) units nothing_defined))
 
-pub loaded : (units : List Unit) (drafts : List DraftBody) (codes : List Compiled) (by_unit : List ℕ) (starters : List Initializer) → drafts ≡ map drafted (defined_file (image_names units) units nothing_defined).bodies → codes ≡ compiled_drafts drafts 0 drafts
-    → by_unit ≡ codes_from (image_names units) units nothing_defined → starters ≡ (defined_file (image_names units) units nothing_defined).initializers → IsLoaded units codes by_unit starters
+pub program-literals : (units : List Unit) (limits : RunLimits) → (program_of_image units limits).trouble_place ≡ length (defined_file (image_names units) units nothing_defined).objects
+unfolding program_of_image program_of image_names
+program-literals units limits = sym (ap (λ (d : Defined). length d.objects) (file-units (image_names units) units nothing_defined))
+
+pub loaded : (units : List Unit) (drafts : List DraftBody) (codes : List Compiled) (by_unit : List ℕ) (starters : List Initializer) (literals : ℕ) → drafts ≡ map drafted (defined_file (image_names units) units nothing_defined).bodies → codes ≡ compiled_drafts drafts 0 drafts
+    → by_unit ≡ codes_from (image_names units) units nothing_defined → starters ≡ (defined_file (image_names units) units nothing_defined).initializers → literals ≡ length (defined_file (image_names units) units nothing_defined).objects → IsLoaded units codes by_unit starters literals
 unfolding unit_codes
-loaded units drafts codes by_unit starters are is numbers begin =
+loaded units drafts codes by_unit starters literals are is numbers begin count =
     record {
       codes = λ limits. compiled-same (program_of_image units limits) drafts codes (are ∙ ap (map drafted) (sym (program-bodies units limits))) is;
       numbers = numbers;
       initializers = λ limits. begin ∙ sym (program-initializers units limits);
+      literals = λ limits. count ∙ sym (program-literals units limits);
     }

@@ -22,10 +22,11 @@ pub record IsDefined (units : List Unit) (now : Definitions) : Type 0 where
   pub numbers : now.unit_codes ≡ codes_from (image_names units) units nothing_defined
 
 -- the program that the units define, whatever the limits of its run
-pub record IsLoaded (units : List Unit) (seen : List Compiled) (by_unit : List ℕ) (starters : List Initializer) : Type 0 where
+pub record IsLoaded (units : List Unit) (seen : List Compiled) (by_unit : List ℕ) (starters : List Initializer) (count : ℕ) : Type 0 where
   pub codes : (limits : RunLimits) → seen ≡ compile_of (program_of_image units limits)
   pub numbers : by_unit ≡ unit_codes units
   pub initializers : (limits : RunLimits) → starters ≡ (program_of_image units limits).initializers
+  pub literals : (limits : RunLimits) → count ≡ (program_of_image units limits).trouble_place
 
 abbrev pub IsParts : List Unit → Parts → Type 0
-IsParts units p = IsLoaded units (map seen_code p.codes) p.unit_codes (map seen_initializer p.initializers)
+IsParts units p = IsLoaded units (map seen_code p.codes) p.unit_codes (map seen_initializer p.initializers) p.literals

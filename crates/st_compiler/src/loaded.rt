@@ -28,6 +28,7 @@ pub(crate) struct Parts {
     codes: Items<Code>,
     unit_codes: Items<u32>,
     initializers: Items<Initializer>,
+    literals: u32,
 }
 
 impl Model for Loaded {
@@ -52,11 +53,13 @@ fn parts_of(alloc: Global, image: &Image) -> Result<Parts, OutOfMemory>
 {
     let definitions = definitions_of(alloc, image)?;
     let codes = codes_of(alloc, definitions.bodies())?;
+    let literals = definitions.literals();
     let (initializers, unit_codes) = definitions.into_rows();
     Ok(Parts {
         codes,
         unit_codes,
         initializers,
+        literals,
     })
 }
 
@@ -96,5 +99,13 @@ impl Loaded {
         ensures { (limits : RunLimits) → map seen_initializer result.now ≡ (program_of_image self.now limits).initializers }
     {
         self.parts.initializers.as_slice()
+    }
+
+    /// How many objects the literals of the program are. The texts of troubles are numbered on
+    /// from there.
+    pub fn literals(&self) -> u32
+        ensures { (limits : RunLimits) → result ≡ (program_of_image self.now limits).trouble_place }
+    {
+        self.parts.literals
     }
 }

@@ -235,6 +235,13 @@ impl<'a> Definitions<'a> {
         self.defining.draft.bodies.as_slice()
     }
 
+    /// How many objects the literals are.
+    pub(crate) fn literals(&self) -> u32
+        ensures { result ≡ self.now.defining.draft.objects }
+    {
+        self.defining.draft.objects
+    }
+
     /// The initializers, and the numbers that the units' bodies got.
     pub(crate) fn into_rows(self) -> (Items<Initializer>, Items<u32>)
         ensures initializers { result.0 ≡ self.entry.defining.initializers }

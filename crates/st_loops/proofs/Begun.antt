@@ -10,7 +10,7 @@ use Rattle.st_code.specs.BuiltIns.{ordered_collection_class}
 use Rattle.st_code.specs.Texts.{Text}
 use Rattle.st_code.specs.Program.{Program}
 use Rattle.st_code.specs.Messages.{LoopMessage}
-use Rattle.st_collections.specs.Actions.{Action, Charges, Fails, Finishes, Iterates, LoopState as State, Visit, first, next_object, second, with_new}
+use Rattle.st_collections.specs.Actions.{Action, Activates, Begins, Changes, Charges, Controls, Curtails, DividesByZero, Ensures, Enters, Fails, Finishes, Gives, Guards, Iterates, LoopState as State, Makes, Misses, PassesIntegers, Raises, RaisesNew, Sends, Terminates, Visit, Writes, first, next_object, second, with_new}
 use Rattle.st_collections.specs.Answers.{program_of}
 use Rattle.st_collections.specs.Kinds.{natural_of}
 use Rattle.st_collections.specs.Loops.{first_of_message, first_visit, loop_action}
@@ -293,3 +293,97 @@ loop_trouble-is p s LoopMessage.RemoveKey r args = refl
 loop_trouble-is p s LoopMessage.RemoveKeyIfAbsent r args = refl
 loop_trouble-is p s LoopMessage.EqualElements r args = refl
 loop_trouble-is p s LoopMessage.NotEqual r args = refl
+
+-- ---- a loop that has no trouble begins
+
+stop_free : (v : Value) (a : Action) → trouble_of (stops v a) ≡ None → stops v a ≡ a
+unfolding stops
+stop_free Nil a e = cc
+stop_free True a e = cc
+stop_free False a e = cc
+stop_free (Integer n) a e = refl
+stop_free (Character n) a e = cc
+stop_free (Symbol n) a e = cc
+stop_free (Class n) a e = cc
+stop_free (Meta n) a e = cc
+stop_free Transcript a e = cc
+stop_free (Object n) a e = cc
+
+step_free_case : (b : Bool) (a : Action) → trouble_of (if b then Fails StepIsZero else a) ≡ None → (if b then Fails StepIsZero else a) ≡ a
+step_free_case true a e = cc
+step_free_case false a e = refl
+
+step_free : (v : Value) (a : Action) → trouble_of (steps v a) ≡ None → steps v a ≡ a
+unfolding steps
+step_free Nil a e = cc
+step_free True a e = cc
+step_free False a e = cc
+step_free (Integer n) a e = step_free_case (nat_eq (natural_of n) 0 && int_le (pos 0) n) a e
+step_free (Character n) a e = cc
+step_free (Symbol n) a e = cc
+step_free (Class n) a e = cc
+step_free (Meta n) a e = cc
+step_free Transcript a e = cc
+step_free (Object n) a e = cc
+
+pub untroubled : (p : Program) (s : Store) (m : LoopMessage) (r : Value) (args : List Value) → trouble_of (loop_action p s m r args) ≡ None → loop_action p s m r args ≡ Iterates (started p s m r args)
+unfolding loop_action stops steps
+untroubled p s LoopMessage.WhileTrue r args e = refl
+untroubled p s LoopMessage.WhileFalse r args e = refl
+untroubled p s LoopMessage.TimesRepeat r args e = refl
+untroubled p s LoopMessage.ToDo r args e = stop_free (first args) (Iterates (started p s LoopMessage.ToDo r args)) e
+untroubled p s LoopMessage.ToByDo r args e =
+    let act : Action = Iterates (started p s LoopMessage.ToByDo r args) in
+    let stands : stops (first args) (steps (second args) act) ≡ steps (second args) act = stop_free (first args) (steps (second args) act) e in
+    stands ∙ step_free (second args) act (sym (ap trouble_of stands) ∙ e)
+untroubled p s LoopMessage.Do r args e = refl
+untroubled p s LoopMessage.DoSeparatedBy r args e = refl
+untroubled p s LoopMessage.ReverseDo r args e = refl
+untroubled p s LoopMessage.KeysAndValuesDo r args e = refl
+untroubled p s LoopMessage.KeysDo r args e = refl
+untroubled p s LoopMessage.InjectInto r args e = refl
+untroubled p s LoopMessage.Detect r args e = refl
+untroubled p s LoopMessage.DetectIfNone r args e = refl
+untroubled p s LoopMessage.AnySatisfy r args e = refl
+untroubled p s LoopMessage.AllSatisfy r args e = refl
+untroubled p s LoopMessage.Collect r args e = refl
+untroubled p s LoopMessage.Select r args e = refl
+untroubled p s LoopMessage.Reject r args e = refl
+untroubled p s LoopMessage.Includes r args e = refl
+untroubled p s LoopMessage.OccurrencesOf r args e = refl
+untroubled p s LoopMessage.IndexOf r args e = refl
+untroubled p s LoopMessage.AddToSet r args e = refl
+untroubled p s LoopMessage.Remove r args e = refl
+untroubled p s LoopMessage.RemoveIfAbsent r args e = refl
+untroubled p s LoopMessage.At r args e = refl
+untroubled p s LoopMessage.AtIfAbsent r args e = refl
+untroubled p s LoopMessage.AtPut r args e = refl
+untroubled p s LoopMessage.AtIfAbsentPut r args e = refl
+untroubled p s LoopMessage.IncludesKey r args e = refl
+untroubled p s LoopMessage.RemoveKey r args e = refl
+untroubled p s LoopMessage.RemoveKeyIfAbsent r args e = refl
+untroubled p s LoopMessage.EqualElements r args e = refl
+untroubled p s LoopMessage.NotEqual r args e = refl
+
+-- a loop that has trouble does nothing else
+pub troubled : (a : Action) (t : Trouble) → trouble_of a ≡ Some t → a ≡ Fails t
+troubled (Gives v) t e = cc
+troubled (Changes s v) t e = cc
+troubled (Makes n s v) t e = cc
+troubled (Writes t' v) t e = cc
+troubled (Fails u) t e = cc
+troubled (DividesByZero v) t e = cc
+troubled PassesIntegers t e = cc
+troubled (Begins v vs) t e = cc
+troubled (Activates c vs) t e = cc
+troubled (Sends n v vs) t e = cc
+troubled (Misses n v vs) t e = cc
+troubled (Enters n v vs) t e = cc
+troubled (Guards u v w) t e = cc
+troubled (Ensures u v) t e = cc
+troubled (Curtails u v) t e = cc
+troubled (Iterates l) t e = cc
+troubled (Raises s n) t e = cc
+troubled (RaisesNew n vs) t e = cc
+troubled (Controls c n v) t e = cc
+troubled (Terminates v) t e = cc

@@ -7,19 +7,14 @@ use Rattle.st_tree.specs.declared.units.Unit.{Unit}
 use Rattle.st_code.specs.declared.instruction.Code.{Code}
 use Rattle.st_code.specs.declared.instruction.Instruction.{Instruction}
 use Rattle.st_code.specs.Compiled.{Compiled, seen_code}
-use Rattle.st_code.specs.Program.{ClassRow, NoIndexes, class_at}
-use Rattle.st_code.specs.Resolved.{ClassNames, no_names, class_names_at}
-use Rattle.st_code.specs.Definitions.{RunLimits, program_of, class_row}
-use Rattle.program_image.specs.declared.class.Class.{Class}
+use Rattle.st_code.specs.Program.{class_at}
+use Rattle.st_code.specs.Definitions.{RunLimits, program_of}
 use Rattle.program_image.specs.declared.class.SharedVariable.{SharedVariable}
-use Rattle.program_image.specs.Classes.{seen_class, seen_variable}
+use Rattle.program_image.specs.Classes.{seen_variable}
 use Rattle.st_code.specs.Written.{named_units}
 use Rattle.program_image.specs.Spelled.{names_in}
 use Rattle.program_image.specs.Images.{image_program, image_names}
 use Rattle.st_rules.specs.Flat.{code_at, no_code, greatest_width}
-
-abbrev pub no_class : ClassRow
-no_class = record { name = []; superclass = None; in_file = false; indexed = NoIndexes; slots = 0; class_slots = 0 }
 
 code_here : (codes : List Code) (n : ℕ) (c : Code) → n < length codes → get_or (map seen_code codes) n no_code ≡ seen_code (get_or codes n c)
 code_here [] n c l = let none : ⊥ = omega (arith, l) in absurd none
@@ -43,24 +38,6 @@ code_out codes n l = code_past codes n l
 pub class_of_plan : (units : List Unit) (limits : RunLimits) (class : ℕ) → (class_at (program_of (names_in (named_units units)) (named_units units) limits) class).class_slots ≡ (class_at (image_program units) class).class_slots
 unfolding class_at image_program program_of image_names
 class_of_plan units limits class = refl
-
-slots_here : (classes : List ClassNames) (n : ℕ) → n < length classes → (get_or (map class_row classes) n no_class).class_slots ≡ (get_or classes n no_names).row.class_slots
-slots_here [] n l = let none : ⊥ = omega (arith, l) in absurd none
-slots_here (c ∷ cs) zero l = refl
-slots_here (c ∷ cs) (suc n) l = slots_here cs n (omega (arith, l))
-
-slots_past : (classes : List ClassNames) (n : ℕ) → length classes ≤ n → 0 ≡ (get_or (map class_row classes) n no_class).class_slots
-slots_past [] n l = refl
-slots_past (c ∷ cs) zero l = let none : ⊥ = omega (arith, l) in absurd none
-slots_past (c ∷ cs) (suc n) l = slots_past cs n (omega (arith, l))
-
-pub slots_in : (units : List Unit) (n : ℕ) (c : Class) → n < length (image_names units).classes → seen_class c ≡ class_names_at (image_names units).classes n → c.class_slots ≡ (class_at (image_program units) n).class_slots
-unfolding class_at image_program
-slots_in units n c l is = ap (λ (x : ClassNames). x.row.class_slots) is ∙ sym (slots_here (image_names units).classes n l)
-
-pub slots_out : (units : List Unit) (n : ℕ) → length (image_names units).classes ≤ n → 0 ≡ (class_at (image_program units) n).class_slots
-unfolding class_at image_program
-slots_out units n l = slots_past (image_names units).classes n l
 
 pub instruction_in : (codes : List Code) (n k : ℕ) (c : Code) (i : Instruction) → n < length codes → c ≡ get_or codes n c → k < length c.instructions.items → i ≡ get_or c.instructions.items k i → Some i ≡ slice_get (code_at (map seen_code codes) n).instructions k
 instruction_in codes n k c i l is lk ik = rw (code_in codes n c l is, slice_get-get_or c.instructions.items k i lk, ← ik) refl

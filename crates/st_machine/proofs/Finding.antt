@@ -7,21 +7,17 @@ use Rattle.st_base.specs.BuiltIns.{messages}
 use Rattle.st_code.specs.Texts.{Text}
 use Rattle.st_tree.specs.declared.units.Unit.{Unit}
 use Rattle.st_code.specs.Program.{class_at, number_of}
-use Rattle.st_code.specs.Resolved.{ClassNames, no_names, class_names_at}
-use Rattle.st_code.specs.Definitions.{RunLimits, program_of, class_row}
+use Rattle.st_code.specs.Definitions.{RunLimits, program_of}
 use Rattle.st_code.specs.Written.{named_units}
 use Rattle.program_image.specs.Spelled.{names_in}
 use Rattle.st_code.specs.Lookup.{is_plain, fits, inherits, is_exception}
 use Rattle.st_code.specs.BuiltIns.{exception_class}
-use Rattle.program_image.specs.declared.class.Class.{Class}
-use Rattle.program_image.specs.Classes.{seen_class}
 use Rattle.program_image.specs.Images.{image_names, image_program}
 use Rattle.program_image.specs.Finding.{program_of_image}
 use Rattle.signal_env.specs.Own.{IsSelector}
 use Rattle.signal_env.proofs.Alike.{searches_alike}
 use Rattle.st_machine.specs.Seen.{Plan}
 use Rattle.st_machine.specs.Plans.{program_in, limits_of}
-use Rattle.st_machine.proofs.Codes.{no_class}
 
 pub plain_same : (plan : Plan) (s : Store) (v : Value) → is_plain (program_in plan) s v ≡ is_plain (image_program plan.units) s v
 unfolding program_of_image
@@ -44,24 +40,6 @@ unfolding is_exception
 exception_same plan s n = sym (inherits_same plan (object_at n s).class exception_class)
 
 -- ---- slots
-
-size_here : (classes : List ClassNames) (n : ℕ) → n < length classes → (get_or (map class_row classes) n no_class).slots ≡ (get_or classes n no_names).row.slots
-size_here [] n l = let none : ⊥ = omega (arith, l) in absurd none
-size_here (c ∷ cs) zero l = refl
-size_here (c ∷ cs) (suc n) l = size_here cs n (omega (arith, l))
-
-size_past : (classes : List ClassNames) (n : ℕ) → length classes ≤ n → 0 ≡ (get_or (map class_row classes) n no_class).slots
-size_past [] n l = refl
-size_past (c ∷ cs) zero l = let none : ⊥ = omega (arith, l) in absurd none
-size_past (c ∷ cs) (suc n) l = size_past cs n (omega (arith, l))
-
-pub size_in : (units : List Unit) (n : ℕ) (c : Class) → n < length (image_names units).classes → seen_class c ≡ class_names_at (image_names units).classes n → c.slots ≡ (class_at (image_program units) n).slots
-unfolding class_at image_program
-size_in units n c l is = ap (λ (x : ClassNames). x.row.slots) is ∙ sym (size_here (image_names units).classes n l)
-
-pub size_out : (units : List Unit) (n : ℕ) → length (image_names units).classes ≤ n → 0 ≡ (class_at (image_program units) n).slots
-unfolding class_at image_program
-size_out units n l = size_past (image_names units).classes n l
 
 pub size_same : (units : List Unit) (limits : RunLimits) (class : ℕ) → (class_at (program_of (names_in (named_units units)) (named_units units) limits) class).slots ≡ (class_at (image_program units) class).slots
 unfolding class_at image_program program_of image_names

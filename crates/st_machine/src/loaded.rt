@@ -3,8 +3,6 @@ ghost use Rattle.std.specs.Prelude.{◌≡◌, ◌+◌, ◌<◌, ◌-◌, ◌^�
 ghost use Rattle.st_rules.specs.Ends.{first_class_slot};
 ghost use Rattle.st_rules.specs.Flat.{code_at, greatest_width};
 ghost use Rattle.st_code.specs.Compiled.{seen_code};
-ghost use Rattle.st_code.specs.Program.{class_at};
-ghost use Rattle.program_image.specs.Images.{image_program};
 ghost use Rattle.st_machine.specs.Plans.{plan_of, program_in, AreShort};
 ghost use Rattle.st_machine.specs.Signals.{text_in, slots_in};
 
@@ -100,7 +98,7 @@ impl Loaded {
     pub fn slots(&self, class: u32) -> u32
         ensures { result ≡ slots_in self.now class }
     {
-        slots_of(&self.image, class)
+        self.image.slots(class)
     }
 
     /// How many steps a run may make.
@@ -147,7 +145,7 @@ impl Loaded {
         ensures { result ≡ first_class_slot (program_in self.now) receiver }
     {
         match receiver {
-            Value::Class(class) => class_slots(&self.image, class),
+            Value::Class(class) => self.image.class_slots(class),
             _ => 0,
         }
     }
@@ -198,26 +196,6 @@ impl Loaded {
         }
         0
     }
-}
-
-// The place of a class's first class instance variable, and 0 where there is no such class.
-fn class_slots(image: &Image, class: u32) -> u32
-    ensures { result ≡ (class_at (image_program image.now) class).class_slots }
-{
-    if class < image.class_count() {
-        return image.class(class).class_slots;
-    }
-    0
-}
-
-// How many slots the instances of a class have, and 0 where there is no such class.
-fn slots_of(image: &Image, class: u32) -> u32
-    ensures { result ≡ (class_at (image_program image.now) class).slots }
-{
-    if class < image.class_count() {
-        return image.class(class).slots;
-    }
-    0
 }
 
 // How many operands these codes ask for at most, and at least 8.

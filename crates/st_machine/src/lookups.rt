@@ -7,7 +7,7 @@ ghost use Rattle.st_machine.specs.Plans.{program_in};
 
 use crate::loaded::Loaded;
 use object_heap::{Heap, Value};
-use signal_env::{fits, inherits, is_plain, selector_number};
+use signal_env::{fits, is_plain, selector_number};
 
 const EXCEPTION: u32 = 23;
 
@@ -42,7 +42,7 @@ impl Loaded {
         ensures { result ≡ code.is_exception (program_in self.now) (H.meaning heap.now).store value }
     {
         match value {
-            Value::Object(number) => inherits(self.image(), heap.class_of(number), EXCEPTION),
+            Value::Object(number) => self.image().inherits(heap.class_of(number), EXCEPTION),
             _ => false,
         }
     }

@@ -1,12 +1,16 @@
 pub mod AtOnce
 pub mod Blanks
 pub mod CollectionsAtOnce
+pub mod Copying
 pub mod KindLaws
 pub mod MissedTexts
 pub mod NewSlots
 pub mod NewTexts
+pub mod NumberLaws
 pub mod PerformLaws
 pub mod Puts
+pub mod RadixTexts
 pub mod RowLaws
 pub mod SendLaws
 pub mod SlotPuts
+pub mod Sound

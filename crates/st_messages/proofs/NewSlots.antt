@@ -69,7 +69,7 @@ no_slots-told stop m class vs count n a =
 -- ---- selectors beside a new object
 
 -- what has slots stands
-stands : (n : ℕ) (s : Store) → 0 < length (object_at n s).slots → n < length s.objects
+pub stands : (n : ℕ) (s : Store) → 0 < length (object_at n s).slots → n < length s.objects
 stands n s h = elim (cases_lt n (length s.objects)) [
   | inl low ↦ low
   | inr past ↦
@@ -78,13 +78,13 @@ stands n s h = elim (cases_lt n (length s.objects)) [
       absurd (omega arith)
 ]
 
-slots_taken : (n : ℕ) (o : HeapObject) (s : Store) → take (length (object_at n s).slots) (object_at n (object_added o s)).slots ≡ (object_at n s).slots
+pub slots_taken : (n : ℕ) (o : HeapObject) (s : Store) → take (length (object_at n s).slots) (object_at n (object_added o s)).slots ≡ (object_at n s).slots
 slots_taken n o s = elim (cases_lt n (length s.objects)) [
   | inl low ↦ rw (object_steady n o s low) (take_all (length (object_at n s).slots) (object_at n s).slots (omega arith))
   | inr past ↦ let none : object_at n s ≡ no_object = get_or_past s.objects n no_object past in rw none refl
 ]
 
-slots_within : (n : ℕ) (o : HeapObject) (s : Store) → length (object_at n s).slots ≤ length (object_at n (object_added o s)).slots
+pub slots_within : (n : ℕ) (o : HeapObject) (s : Store) → length (object_at n s).slots ≤ length (object_at n (object_added o s)).slots
 slots_within n o s = elim (cases_lt n (length s.objects)) [
   | inl low ↦ rw (object_steady n o s low) (omega arith)
   | inr past ↦ let none : object_at n s ≡ no_object = get_or_past s.objects n no_object past in rw none (omega arith)

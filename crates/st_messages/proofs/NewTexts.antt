@@ -1,5 +1,5 @@
 -- A new String whose pieces are written one behind the other.
-use Rattle.std.proofs.Common.{◌≡◌, ℕ, zero, suc, ◌+◌, ◌-◌, ◌<◌, ◌≤◌, Err, List, [], ◌∷◌, ◌++◌, length, get_or, take, replicate, refl, ap, sym, ◌∙◌, arith}
+use Rattle.std.proofs.Common.{◌≡◌, ℕ, zero, suc, ◌+◌, ◌-◌, ◌<◌, ◌≤◌, Ok, Err, List, [], ◌∷◌, ◌++◌, length, get_or, take, replicate, refl, ap, sym, ◌∙◌, arith}
 use borrow.Author.Tests.{le-leb}
 use Rattle.std.proofs.lemmas.List.{append_assoc, append-nil, length-append, take_all, take_more}
 use Rattle.object_heap.specs.declared.value.Value.{Value}
@@ -11,7 +11,7 @@ use Rattle.st_code.specs.Texts.{Text, quotes_doubled}
 use Rattle.st_collections.specs.Actions.{Makes, makes_string, makes_bytes, new_object, next_object, with_new}
 use Rattle.object_heap.specs.declared.heap.HeapStop.{HeapStop}
 use Rattle.st_collections.specs.Answers.{allot_answer, answer_of, memory_of, stop_answer, unless_out}
-use Rattle.st_collections.proofs.Objects.{stop_memory, stop_answer-is}
+use Rattle.st_collections.proofs.Objects.{paid_of, stop_memory, stop_answer-is}
 use Rattle.st_collections.specs.declared.answer.Built.{Built}
 use Rattle.st_collections.proofs.Steady.{object_steady}
 use Rattle.st_messages.specs.declared.pieces.Piece.{Piece}
@@ -146,3 +146,16 @@ text_end p m m1 xs i count at h a n paid e =
     let all : take i xs ≡ xs = take_all i xs h in
     let none : count - at ≡ 0 = omega (arith, rw all at a, n) in
     (rw (all, none) at e) ∙ so_far_ends m count (pieces_text p m.store xs) n paid
+
+-- ---- a String of bytes that are written at once
+
+pub paid_text : (n count : ℕ) (m : Memory) → Ok n ≡ if_out (Ok n) (Ok n) (allot_answer (object_charge 0 count) m) → (m.used + object_charge 0 count ≤ m.limit) × (n ≡ length m.store.objects)
+paid_text n count m e = paid_of n (object_charge 0 count) m e
+
+pub bytes_end : (m m1 m2 : Memory) (number : ℕ) (t : Text) → number ≡ length m.store.objects → m.used + object_charge 0 (length t) ≤ m.limit → m1 ≡ charged (object_charge 0 (length t)) (object_added (blank_object string_class 0 (length t)) m.store) m
+    → m2 ≡ put number 0 t m1 → m2 ≡ memory_of (makes_string t m.store) m
+bytes_end m m1 m2 number t o paid made wrote =
+    let room : length t + 0 ≡ length t = omega arith in
+    let begun : m1 ≡ text_so_far m (object_charge 0 (length t)) [] (length t) = so_far_begins m m1 (object_charge 0 (length t)) (length t) paid made in
+    let put_in : m2 ≡ put number 0 t (text_so_far m (object_charge 0 (length t)) [] (length t + 0)) = rw room (wrote ∙ ap (λ (w : Memory). put number 0 t w) begun) in
+    so_far_more m m2 (object_charge 0 (length t)) number 0 [] t 0 o refl put_in ∙ so_far_ends m (length t) t refl paid

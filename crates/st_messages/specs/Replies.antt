@@ -9,10 +9,12 @@ use Rattle.st_code.specs.Texts.{Text}
 use Rattle.st_code.specs.Program.{Program}
 use Rattle.st_code.specs.Messages as rows
 use Rattle.st_collections.specs.declared.answer.Built.{Built}
-use Rattle.st_collections.specs.Actions.{Action, Gives, Changes, Makes, Fails, PassesIntegers, DividesByZero, Writes, Begins, Activates, Sends, Misses, Enters, Guards, Ensures, Curtails, Raises, RaisesNew, Controls, Terminates}
+use Rattle.st_collections.specs.Actions.{Action, Gives, Changes, Makes, Fails, PassesIntegers, DividesByZero, Writes, Begins, Activates, Sends, Misses, Enters, Guards, Ensures, Curtails, Iterates, Raises, RaisesNew, Controls, Terminates}
 use Rattle.st_collections.specs.Answers.{charge_told, memory_of, is_out}
 use Rattle.st_collections.specs.Kinds.{slots_of, exception_text}
 use Rattle.st_collections.specs.Orders.{text_of}
+use Rattle.st_loops.specs.Kinds.{message_of}
+use Rattle.st_loops.specs.Starts.{started}
 use Rattle.st_messages.specs.declared.reply.Reply.{Reply}
 use Rattle.st_messages.specs.declared.reply.Passed.{Passed}
 use Rattle.st_messages.specs.declared.reply.Written.{Written}
@@ -67,6 +69,7 @@ seen p s args (Reply.Enters code v) = GoesOn (Enters code v args)
 seen p s args (Reply.Guards r selector handler) = GoesOn (Guards r selector handler)
 seen p s args (Reply.Ensures r block) = GoesOn (Ensures r block)
 seen p s args (Reply.Curtails r block) = GoesOn (Curtails r block)
+seen p s args (Reply.Iterates kind v) = GoesOn (Iterates (started p s (message_of kind) v args))
 seen p s args (Reply.Raises exception) = Raised exception
 seen p s args (Reply.RaisesNew class passed) = GoesOn (RaisesNew class (passed_on s args passed))
 seen p s args (Reply.Controls control exception v) = GoesOn (Controls (control_row control) exception v)

@@ -1,7 +1,8 @@
 -- The rows of the table of built-in messages that these rows are.
-use Rattle.std.specs.Prelude.{List, map, Option, Some, None}
-use Rattle.st_code.specs.Messages.{ObjectMessage, ClassMessage, BooleanMessage, TranscriptMessage, BlockMessage, ExceptionMessage, CollectionMessage as CollectionRow, Row, Objects, Classes, Booleans, Numbers, Characters, Transcripts, Strings, Sequences, Collections, Blocks, Exceptions, Loops, Slots}
-use Rattle.st_code.specs.BuiltIns.{BuiltInMessage, numbered_messages}
+use Rattle.std.specs.Prelude.{List, map, take}
+use Rattle.st_code.specs.Messages.{ObjectMessage, ClassMessage, BooleanMessage, NumberMessage as NumberRow, TranscriptMessage, BlockMessage, ExceptionMessage, CollectionMessage as CollectionRow, Row, Objects, Classes, Booleans, Numbers, Characters, Transcripts, Strings, Sequences, Collections, Blocks, Exceptions, Loops, Slots}
+use Rattle.st_code.specs.BuiltIns.{numbered_messages}
+use Rattle.st_numbers.specs.declared.message.NumberMessage.{NumberMessage}
 use Rattle.st_collections.specs.declared.message.OfMaking.{OfMaking}
 use Rattle.st_collections.specs.declared.message.OfOrdered.{OfOrdered}
 use Rattle.st_collections.specs.declared.message.OfPair.{OfPair}
@@ -11,11 +12,13 @@ use Rattle.st_messages.specs.declared.row.OfObject.{OfObject}
 use Rattle.st_messages.specs.declared.row.OfQuestion.{OfQuestion}
 use Rattle.st_messages.specs.declared.row.OfClass.{OfClass}
 use Rattle.st_messages.specs.declared.row.OfBoolean.{OfBoolean}
+use Rattle.st_messages.specs.declared.row.OfNumber.{OfNumber}
 use Rattle.st_messages.specs.declared.row.OfMaker.{OfMaker}
 use Rattle.st_messages.specs.declared.row.OfTranscript.{OfTranscript}
 use Rattle.st_messages.specs.declared.row.OfBlock.{OfBlock}
 use Rattle.st_messages.specs.declared.row.OfSelector.{OfSelector}
 use Rattle.st_messages.specs.declared.row.OfException.{OfException}
+use Rattle.st_loops.specs.Kinds.{message_of}
 use Rattle.st_messages.specs.Replies.{control_row}
 
 abbrev pub question_row : OfQuestion → ObjectMessage
@@ -34,6 +37,7 @@ question_row OfQuestion.Yourself = ObjectMessage.Yourself
 
 abbrev pub object_row : OfObject → ObjectMessage
 object_row (OfObject.Question m) = question_row m
+object_row OfObject.Copy = ObjectMessage.Copy
 object_row OfObject.PrintString = ObjectMessage.PrintString
 object_row OfObject.DisplayString = ObjectMessage.DisplayString
 object_row OfObject.Size = ObjectMessage.Size
@@ -62,6 +66,45 @@ boolean_row OfBoolean.IfTrue = BooleanMessage.IfTrue
 boolean_row OfBoolean.IfFalse = BooleanMessage.IfFalse
 boolean_row OfBoolean.IfTrueIfFalse = BooleanMessage.IfTrueIfFalse
 boolean_row OfBoolean.IfFalseIfTrue = BooleanMessage.IfFalseIfTrue
+
+abbrev pub arithmetic_row : NumberMessage → NumberRow
+arithmetic_row NumberMessage.Add = NumberRow.Add
+arithmetic_row NumberMessage.Subtract = NumberRow.Subtract
+arithmetic_row NumberMessage.Multiply = NumberRow.Multiply
+arithmetic_row NumberMessage.Divide = NumberRow.Divide
+arithmetic_row NumberMessage.FloorDivide = NumberRow.FloorDivide
+arithmetic_row NumberMessage.Modulo = NumberRow.FloorModulo
+arithmetic_row NumberMessage.Quo = NumberRow.Quotient
+arithmetic_row NumberMessage.Rem = NumberRow.Remainder
+arithmetic_row NumberMessage.Less = NumberRow.Less
+arithmetic_row NumberMessage.Greater = NumberRow.Greater
+arithmetic_row NumberMessage.LessOrEqual = NumberRow.LessOrEqual
+arithmetic_row NumberMessage.GreaterOrEqual = NumberRow.GreaterOrEqual
+arithmetic_row NumberMessage.Equal = NumberRow.Equal
+arithmetic_row NumberMessage.Negated = NumberRow.Negated
+arithmetic_row NumberMessage.Abs = NumberRow.Abs
+arithmetic_row NumberMessage.Sign = NumberRow.Sign
+arithmetic_row NumberMessage.Even = NumberRow.Even
+arithmetic_row NumberMessage.Odd = NumberRow.Odd
+arithmetic_row NumberMessage.IsZero = NumberRow.IsZero
+arithmetic_row NumberMessage.Max = NumberRow.Max
+arithmetic_row NumberMessage.Min = NumberRow.Min
+arithmetic_row NumberMessage.Gcd = NumberRow.Gcd
+arithmetic_row NumberMessage.Lcm = NumberRow.Lcm
+arithmetic_row NumberMessage.BitAnd = NumberRow.BitAnd
+arithmetic_row NumberMessage.BitOr = NumberRow.BitOr
+arithmetic_row NumberMessage.BitXor = NumberRow.BitXor
+arithmetic_row NumberMessage.BitShift = NumberRow.BitShift
+arithmetic_row NumberMessage.Numerator = NumberRow.Numerator
+arithmetic_row NumberMessage.Denominator = NumberRow.Denominator
+arithmetic_row NumberMessage.Truncated = NumberRow.Truncated
+arithmetic_row NumberMessage.Reciprocal = NumberRow.Reciprocal
+
+abbrev pub number_row : OfNumber → NumberRow
+number_row (OfNumber.Computes m) = arithmetic_row m
+number_row OfNumber.AsString = NumberRow.AsString
+number_row OfNumber.PrintRadix = NumberRow.PrintRadix
+number_row OfNumber.FromNumerator = NumberRow.FromNumerator
 
 abbrev pub transcript_row : OfTranscript → TranscriptMessage
 transcript_row OfTranscript.Show = TranscriptMessage.Show
@@ -103,6 +146,8 @@ maker_row OfMaker.WithAll = Collections CollectionRow.WithAll
 maker_row OfMaker.Empty = Collections CollectionRow.NewEmpty
 maker_row OfMaker.KeyValue = Collections CollectionRow.KeyValue
 maker_row OfMaker.Arrow = Objects ObjectMessage.Arrow
+maker_row OfMaker.To = Numbers NumberRow.To
+maker_row OfMaker.ToBy = Numbers NumberRow.ToBy
 
 -- the same as a message of collections
 abbrev pub making_of : OfMaker → OfMaking
@@ -113,6 +158,8 @@ making_of OfMaker.WithAll = OfMaking.WithAll
 making_of OfMaker.Empty = OfMaking.Empty
 making_of OfMaker.KeyValue = OfMaking.KeyValue
 making_of OfMaker.Arrow = OfMaking.Arrow
+making_of OfMaker.To = OfMaking.To
+making_of OfMaker.ToBy = OfMaking.ToBy
 
 abbrev pub ordered_row : OfOrdered → CollectionRow
 ordered_row OfOrdered.Add = CollectionRow.Add
@@ -134,6 +181,7 @@ abbrev pub table_row : MessageRow → Row
 table_row (MessageRow.Object m) = Objects (object_row m)
 table_row (MessageRow.Class m) = Classes (class_row m)
 table_row (MessageRow.Boolean m) = Booleans (boolean_row m)
+table_row (MessageRow.Number m) = Numbers (number_row m)
 table_row (MessageRow.Transcript m) = Transcripts (transcript_row m)
 table_row (MessageRow.Character m) = Characters (character_row m)
 table_row (MessageRow.String m) = Strings (string_row m)
@@ -144,18 +192,9 @@ table_row (MessageRow.Pair m) = pair_row m
 table_row (MessageRow.Block m) = Blocks (block_row m)
 table_row (MessageRow.Selector m) = Exceptions (selector_row m)
 table_row (MessageRow.Exception m) = Exceptions (exception_row m)
+table_row (MessageRow.Loop kind) = Loops (message_of kind)
 table_row (MessageRow.Slot slot) = Slots slot
 
--- the rows that are here
-abbrev pub at_once : Row → Option Row
-at_once (Objects ObjectMessage.Copy) = None
-at_once (Numbers m) = None
-at_once (Loops m) = None
-at_once row = Some row
-
-abbrev pub row_at_once : BuiltInMessage → Option Row
-row_at_once m = at_once m.row
-
--- those of all messages, by number
-unfoldable pub at_once_rows : List (Option Row)
-at_once_rows = map row_at_once numbered_messages
+-- the rows before the loops, by number
+unfoldable pub plain_rows : List Row
+plain_rows = take 278 (map (λ m. m.row) numbered_messages)

@@ -7,18 +7,23 @@ mod booleans;
 mod built_in;
 mod classes;
 mod collections;
+mod copies;
 mod dispatch;
 mod exception_texts;
 mod exceptions;
 mod facts;
 mod indexed;
+mod law;
 mod level;
+mod loops;
 mod makers;
+mod numbers;
 mod objects;
 mod performs;
 mod pieces;
 mod printed;
 mod questions;
+mod radix;
 mod reply;
 mod row;
 mod selectors;
@@ -36,10 +41,13 @@ pub use collections::collection_reply;
 pub use dispatch::{row_message, send_message, super_message};
 pub use exceptions::exception_message;
 pub use facts::ProgramFacts;
+pub use law::what_is_ready_is_done;
+pub use loops::loop_reply;
+pub use numbers::number_reply;
 pub use objects::object_message;
 pub use reply::{Control, Passed, Reply, Written};
 pub use row::{
-    MessageRow, OfBlock, OfBoolean, OfClass, OfException, OfMaker, OfObject, OfQuestion,
+    MessageRow, OfBlock, OfBoolean, OfClass, OfException, OfMaker, OfNumber, OfObject, OfQuestion,
     OfSelector, OfTranscript,
 };
 pub use selectors::selector_message;

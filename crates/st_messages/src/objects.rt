@@ -7,16 +7,36 @@ ghost use Rattle.st_messages.specs.Rows.{object_row};
 
 use crate::arguments::first_of;
 use crate::built_in::{ERROR, MESSAGE_NOT_UNDERSTOOD, STRING};
+use crate::copies::new_copy;
 use crate::facts::ProgramFacts;
 use crate::indexed::{at, at_put, size};
 use crate::performs::{perform, perform_with};
 use crate::pieces::Piece;
 use crate::printed::print_string;
 use crate::questions::question;
-use crate::reply::{Passed, Reply, answer_trouble};
+use crate::reply::{Passed, Reply, answer, answer_trouble};
 use crate::row::OfObject;
 use crate::texts::new_text;
 use object_heap::{Heap, Trouble, Value};
+
+// `copy`.
+#[tactic(auto, unfolding(st_collections::specs::ObjectRows::object_action))]
+fn copy<H: Heap, P: ProgramFacts>(
+    heap: &mut H,
+    program: &P,
+    receiver: Value,
+    arguments: &[Value],
+) -> Reply
+    ensures memory { H.meaning heap.new ≡ unless_lost result (H.meaning heap.old) (memory_after (object_action (P.meaning program.now) (H.meaning heap.old).store ObjectMessage.Copy receiver arguments.now) (H.meaning heap.old)) }
+    ensures reply { let said = seen (P.meaning program.now) (H.meaning heap.old).store arguments.now result in said ≡ unless_lost result said (told_by (object_action (P.meaning program.now) (H.meaning heap.old).store ObjectMessage.Copy receiver arguments.now) (H.meaning heap.old)) }
+    ensures reserved { IsTrue H.reserved → is_lost result ≡ false }
+    ensures literals { H.literal_room heap.new ≡ H.literal_room heap.old }
+{
+    match receiver {
+        Value::Object(object) => Reply::Answer(new_copy(heap, object)),
+        _ => answer(receiver),
+    }
+}
 
 // `printString`.
 #[tactic(auto, unfolding(st_collections::specs::ObjectRows::object_action, st_collections::specs::Actions::makes_string, st_collections::specs::Actions::makes_bytes))]
@@ -76,6 +96,7 @@ pub fn object_message<H: Heap, P: ProgramFacts>(
 {
     match message {
         OfObject::Question(m) => question(heap, program, m, receiver, arguments),
+        OfObject::Copy => copy(heap, program, receiver, arguments),
         OfObject::PrintString => print(heap, program, receiver, arguments),
         OfObject::DisplayString => display(heap, program, receiver, arguments),
         OfObject::Size => size(heap, program, receiver, arguments),

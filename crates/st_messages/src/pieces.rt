@@ -69,8 +69,8 @@ pub fn words_of(words: Words) -> &'static [u8]
     }
 }
 
-// Writes bytes into an object, and answers the place behind them.
-fn put_bytes<H: Heap>(heap: &mut H, object: u32, at: u32, bytes: &[u8]) -> u32
+/// Writes bytes into an object, and answers the place behind them.
+pub fn put_bytes<H: Heap>(heap: &mut H, object: u32, at: u32, bytes: &[u8]) -> u32
     requires { at + length bytes.now < 2 ^ 32 }
     ensures written { H.meaning heap.new ≡ with_store (bytes_put object at bytes.now (H.meaning heap.old).store) (H.meaning heap.old) }
     ensures behind { result ≡ at + length bytes.now }
@@ -112,9 +112,9 @@ fn put_doubled_byte<H: Heap>(heap: &mut H, object: u32, at: u32, byte: u8) -> u3
     at + 1
 }
 
-// Writes the bytes of another object.
-fn put_bytes_of<H: Heap>(heap: &mut H, object: u32, at: u32, from: u32) -> u32
-    requires other { from ≢ object }
+/// Writes the bytes of another object, and answers the place behind them.
+pub fn put_bytes_of<H: Heap>(heap: &mut H, object: u32, at: u32, from: u32) -> u32
+    requires other { 0 < length (object_at from (H.meaning heap.old).store).bytes → from ≢ object }
     requires fits { at + length (object_at from (H.meaning heap.old).store).bytes < 2 ^ 32 }
     ensures written { H.meaning heap.new ≡ with_store (bytes_put object at (object_at from (H.meaning heap.old).store).bytes (H.meaning heap.old).store) (H.meaning heap.old) }
     ensures behind { result ≡ at + length (object_at from (H.meaning heap.old).store).bytes }

@@ -18,7 +18,8 @@ use crate::texts::new_text;
 use object_heap::{Heap, Value};
 use st_collections::Built;
 
-fn integer_in(value: Value) -> i128
+/// An Integer, and 0 for any other value.
+pub fn integer_in(value: Value) -> i128
     ensures { result ≡ integer_of value }
 {
     match value {

@@ -8,6 +8,7 @@ ghost use Rattle.st_messages.specs.declared.reply.Reply.{Reply};
 
 use object_heap::{Closure, Trouble, Value};
 use st_collections::Built;
+use st_loops::LoopKind;
 
 /// Values that go on with a reply. They stand in the arguments of the message or in the heap, so
 /// no memory is taken for them.
@@ -74,6 +75,8 @@ pub enum Reply {
     Ensures(Value, Value),
     /// `ifCurtailed:` of a receiver, by a block.
     Curtails(Value, Value),
+    /// The loop of this receiver begins, with the arguments of the message.
+    Iterates(LoopKind, Value),
     /// The exception with this number is signaled.
     Raises(u32),
     /// A new exception of this class, with these first slots, is signaled.

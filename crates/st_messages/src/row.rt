@@ -1,6 +1,8 @@
 // The rows of the table of built-in messages, by what they do.
 use crate::reply::Control;
 use st_collections::{OfCharacter, OfOrdered, OfPair, OfSequence, OfString};
+use st_loops::LoopKind;
+use st_numbers::NumberMessage;
 
 /// A row of the table of built-in messages that acts at once (ANSI NCITS 319, 5).
 #[derive(Clone, Copy, Debug, PartialEq, Eq)]
@@ -8,6 +10,7 @@ pub enum MessageRow {
     Object(OfObject),
     Class(OfClass),
     Boolean(OfBoolean),
+    Number(OfNumber),
     Transcript(OfTranscript),
     Character(OfCharacter),
     String(OfString),
@@ -18,6 +21,7 @@ pub enum MessageRow {
     Block(OfBlock),
     Selector(OfSelector),
     Exception(OfException),
+    Loop(LoopKind),
     /// Answers the receiver's slot at this place, from 0.
     Slot(u32),
 }
@@ -27,6 +31,8 @@ pub enum MessageRow {
 pub enum OfObject {
     /// What it is.
     Question(OfQuestion),
+    /// `copy`
+    Copy,
     /// `printString`
     PrintString,
     /// `displayString`
@@ -116,7 +122,20 @@ pub enum OfBoolean {
     IfFalseIfTrue,
 }
 
-/// The messages that make a collection or an Association (section 5.7).
+/// The messages of Integers and Fractions (section 5.6).
+#[derive(Clone, Copy, Debug, PartialEq, Eq)]
+pub enum OfNumber {
+    /// Arithmetic and comparisons.
+    Computes(NumberMessage),
+    /// `asString`
+    AsString,
+    /// `printString:`
+    PrintRadix,
+    /// `numerator:denominator:` of class Fraction
+    FromNumerator,
+}
+
+/// The messages that make a collection, an Association or an Interval (sections 5.6 and 5.7).
 #[derive(Clone, Copy, Debug, PartialEq, Eq)]
 pub enum OfMaker {
     /// `new:` of class Array
@@ -133,6 +152,10 @@ pub enum OfMaker {
     KeyValue,
     /// `->` of any object
     Arrow,
+    /// `to:` of Integer
+    To,
+    /// `to:by:` of Integer
+    ToBy,
 }
 
 /// The messages of the Transcript (section 5.10).

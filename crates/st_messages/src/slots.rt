@@ -13,8 +13,8 @@ use crate::makers::{answer_stop, blank};
 use object_heap::{Heap, Value};
 use st_collections::Built;
 
-// Writes so many slots of another object, and answers the place behind them.
-fn put_slots_of<H: Heap>(heap: &mut H, object: u32, at: u32, from: u32, count: u32) -> u32
+/// Writes so many slots of another object, and answers the place behind them.
+pub fn put_slots_of<H: Heap>(heap: &mut H, object: u32, at: u32, from: u32, count: u32) -> u32
     requires other { 0 < count → from ≢ object }
     requires fits { at + count < 2 ^ 32 }
     requires within { count ≤ length (object_at from (H.meaning heap.old).store).slots }

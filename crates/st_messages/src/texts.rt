@@ -7,7 +7,7 @@ ghost use Rattle.st_messages.specs.Pieces.{AreKnown, pieces_text};
 use crate::built_in::STRING;
 use crate::facts::ProgramFacts;
 use crate::makers::{answer_stop, blank};
-use crate::pieces::{Piece, piece_length, put_piece};
+use crate::pieces::{Piece, piece_length, put_bytes, put_piece};
 use object_heap::{Heap, Value};
 use st_collections::Built;
 
@@ -41,5 +41,20 @@ pub fn new_text<H: Heap, P: ProgramFacts>(heap: &mut H, program: &P, pieces: &[P
     for piece in pieces {
         at = put_piece(heap, program, object, at, *piece);
     }
+    Built::Value(Value::Object(object))
+}
+
+/// A new String of these bytes.
+pub fn new_bytes<H: Heap>(heap: &mut H, bytes: &[u8]) -> Built
+    ensures memory { H.meaning heap.new ≡ unless_out result (H.meaning heap.old) (memory_of (makes_string bytes.now (H.meaning heap.old).store) (H.meaning heap.old)) }
+    ensures answer { result ≡ unless_out result result (answer_of (makes_string bytes.now (H.meaning heap.old).store) (H.meaning heap.old)) }
+    ensures reserved { IsTrue H.reserved → is_out result ≡ false }
+    ensures literals { H.literal_room heap.new ≡ H.literal_room heap.old }
+{
+    let object = match blank(heap, STRING, 0, bytes.len() as u128) {
+        Ok(object) => object,
+        Err(stop) => return answer_stop(stop),
+    };
+    put_bytes(heap, object, 0, bytes);
     Built::Value(Value::Object(object))
 }

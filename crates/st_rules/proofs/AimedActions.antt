@@ -1,28 +1,29 @@
--- What a message does at once leaves the closures as they are, and activates one that is there.
-use Rattle.std.proofs.Common.{◌≡◌, ℕ, zero, suc, ◌<◌, length, pos, List, [], ◌∷◌, Option, Some, None, Bool, true, false, ap, arith, nat_eq, slice_get, if◌then◌else◌}
+-- What a message does at once leaves the closures as they are, or copies one, and activates one that is there.
+use Rattle.std.proofs.Common.{◌≡◌, ℕ, zero, suc, ◌<◌, length, pos, List, [], ◌∷◌, Option, Some, None, Bool, true, false, ap, subst, sym, arith, nat_eq, slice_get, if◌then◌else◌}
 use Rattle.std.specs.Option.{option_and_then}
 use Rattle.object_heap.specs.declared.value.Value.{Value}
 use Rattle.object_heap.specs.declared.value.Value.TheVariants.{Nil, Integer, Object}
 use Rattle.object_heap.specs.declared.value.Closure.{Closure}
 use Rattle.object_heap.specs.declared.trouble.Trouble.TheVariants.{WrongNumberOfArguments, CollectionExpected}
-use Rattle.object_heap.specs.Store.{Store, object_at}
+use Rattle.object_heap.specs.Store.{Store, Object as HeapObject, closure_at, object_at}
 use Rattle.st_code.specs.Program.{Program, body_at}
 use Rattle.st_code.specs.BuiltIns.{array_class}
-use Rattle.st_code.specs.Messages.{Row, Objects, Classes, Booleans, Numbers, Characters, Transcripts, Strings, Sequences, Collections, Blocks, Exceptions, Loops, Slots, BlockMessage}
+use Rattle.st_code.specs.Messages.{Row, Objects, Classes, Booleans, Numbers, Characters, Transcripts, Strings, Sequences, Collections, Blocks, Exceptions, Loops, Slots, BlockMessage, ObjectMessage}
 use Rattle.st_code.specs.Lookup.{Found, UserMethod, BuiltIn, level_of, lookup, super_lookup}
 use Rattle.st_collections.specs.Actions.{Action, Gives, Changes, Makes, Writes, Fails, DividesByZero, PassesIntegers, Begins, Activates, Sends, Misses, Enters, Guards, Ensures, Curtails, Iterates, Raises, RaisesNew, Controls, Terminates, first, second}
 use Rattle.st_collections.specs.Kinds.{is_a, slots_of}
+use Rattle.st_collections.specs.ObjectRows.{copied, object_action}
 use Rattle.st_rules.specs.State.{Mark}
 use Rattle.st_rules.specs.Sends.{row_action, send_action, super_action}
 use Rattle.st_rules.specs.ExceptionRows.{closure_of, block_action}
 use Rattle.st_rules.specs.Rules.{closure_for}
 use Rattle.st_rules.proofs.SameRows.{with_rest, relabeled, object_free, class_free, boolean_free, number_free, character_free, transcript_free, string_free, sequence_free, collection_free, exception_free, loop_free}
-use Rattle.st_rules.proofs.Targets.{HomeOk, HomesOk}
+use Rattle.st_rules.proofs.Targets.{HomeOk, HomesOk, homes_new}
 
--- what a message does at once leaves the closures as they are, and activates one that is there
+-- what a message does at once leaves the closures as they are, or copies one, and activates one that is there
 abbrev pub ActionOk : List Mark → ℕ → List Closure → Action → Type 0
 ActionOk s next cs (Changes t v) = t.closures ≡ cs
-ActionOk s next cs (Makes n t v) = t.closures ≡ cs
+ActionOk s next cs (Makes n t v) = HomesOk s next t.closures
 ActionOk s next cs (Raises t e) = t.closures ≡ cs
 ActionOk s next cs (Activates c args) = HomeOk c.home s × (c.home < next)
 ActionOk s next cs a = Unit {0}
@@ -48,7 +49,7 @@ module _ (p : Program) (s : List Mark) (next : ℕ) (t : Store) (homes : HomesOk
   row_fine : (a : Action) → a ≡ relabeled t.closures t.scopes a → Fine a
   row_fine (Gives v) e = tt
   row_fine (Changes u v) e = ap (λ (x : Store). x.closures) (changes_store u (with_rest t.closures t.scopes u) v e)
-  row_fine (Makes n u v) e = ap (λ (x : Store). x.closures) (makes_store n u (with_rest t.closures t.scopes u) v e)
+  row_fine (Makes n u v) e = subst (λ (x : Store). HomesOk s next x.closures) (sym (makes_store n u (with_rest t.closures t.scopes u) v e)) homes
   row_fine (Writes text v) e = tt
   row_fine (Fails trouble) e = tt
   row_fine (DividesByZero v) e = tt
@@ -132,9 +133,19 @@ module _ (p : Program) (s : List Mark) (next : ℕ) (t : Store) (homes : HomesOk
   block_fine BlockMessage.Ensure r (Some c) args h = tt
   block_fine BlockMessage.IfCurtailed r (Some c) args h = tt
 
+  copied_fine : (o : HeapObject) (c : Option Closure) → There c → Fine (copied t o c)
+  copied_fine o None h = homes
+  copied_fine o (Some c) h = homes_new s next t.closures c homes h.0 h.1
+
+  copy_fine : (r : Value) (args : List Value) → Fine (object_action p t ObjectMessage.Copy r args)
+  unfolding object_action
+  copy_fine (Object n) args = copied_fine (object_at n t) (closure_at n t) (there_after (object_at n t).closure)
+  copy_fine r args = tt
+
   rows_fine : (row : Row) (r : Value) (args : List Value) → Fine (row_action p t row r args)
   unfolding row_action block_action
-  rows_fine (Objects m) r args = row_fine _ (object_free p t t.closures t.scopes m r args)
+  rows_fine (Objects ObjectMessage.Copy) r args = copy_fine r args
+  rows_fine (Objects m) r args = row_fine _ (object_free p t t.closures t.scopes m r args tt)
   rows_fine (Classes m) r args = row_fine _ (class_free p t t.closures t.scopes m r args)
   rows_fine (Booleans m) r args = row_fine _ (boolean_free p t t.closures t.scopes m r args)
   rows_fine (Numbers m) r args = row_fine _ (number_free p t t.closures t.scopes m r args)

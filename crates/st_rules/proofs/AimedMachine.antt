@@ -272,7 +272,7 @@ module _ (p : Program) where
   unfolding with_arguments with_message with_new
   perform_fits (Gives v) env acts st h e k = (h, tt)
   perform_fits (Changes s v) env acts st h e k = (same_closures acts st.next st.store.closures s.closures k h, tt)
-  perform_fits (Makes cells s v) env acts st h e k = used_fits p cells st _ _ (h, tt) (λ c. (same_closures acts st.next st.store.closures s.closures k h, tt))
+  perform_fits (Makes cells s v) env acts st h e k = used_fits p cells st _ _ (h, tt) (λ c. ((record { sound = h.0.sound; under = h.0.under; homes = k }, h.1), tt))
   perform_fits (Writes text v) env acts st h e k = (h, tt)
   perform_fits (Fails trouble) env acts st h e k = (h, e)
   perform_fits (DividesByZero dividend) env acts st h e k = (h, e)

@@ -26,7 +26,7 @@ use Rattle.st_code.specs.Lookup.{level_of, superclasses, inherits, walk, method_
 use Rattle.st_collections.specs.Loops.{is_within, visit_at, given_at, next_visit, first_of_message, first_visit, loop_action}
 use Rattle.st_numbers.specs.Answers.{shifted}
 use Rattle.st_numbers.specs.Gcd.{gcd_within, gcd}
-use Rattle.st_rules.specs.NumberRows.{as_number, argument_of, arithmetic_action, number_action}
+use Rattle.st_rules.specs.NumberRows.{as_number, argument_of, arithmetic_action, last_digits, number_action}
 use Rattle.st_collections.specs.ObjectRows.{object_action, class_action, boolean_action}
 use Rattle.st_rules.specs.Rules.{at_index, exception_slots, with_exception, closure_for}
 use Rattle.st_rules.specs.Runs.{first_state}
@@ -87,5 +87,5 @@ abbrev pub Reports : Program → (instructions : ℕ) → Report → Type 0
 Reports p instructions r = (by_rules p ≡ r ∷ []) × (by_scoped p ≡ (r, instructions) ∷ []) × (by_flat p ≡ (r, instructions) ∷ [])
 
 unfoldable pub computing : Unit {0}
-unfolding at_index first_state step_made stood used scope_up scoped_variable with_scoped_variable first_variables count_true scope_cells with_scope stands is_live turn_of same_text text_less is_upper is_lower is_digit is_letter to_upper to_lower all_bytes is_identifier are_keywords is_keywords holds_byte is_operators count_byte arity quotes_doubled quoted symbol_text with_article body_at class_at name_at number_of row_at built_in_class_rows level_of superclasses inherits walk method_at found_at found_in lookup super_lookup class_of class_text is_exception is_plain fits with_new makes_slots makes_bytes makes_string makes_blank same_value is_a bytes_of slots_of slot_of interval_size size_of element some_elements elements key is_sequence is_collection species print_text exception_text object_action class_action boolean_action gcd_within gcd shifted as_number argument_of arithmetic_action number_action character_action string_action transcript_action makes_sequence sequence_action grown_to with_elements without_element collection_action closure_of block_action exception_action is_within visit_at given_at next_visit first_of_message first_visit loop_action row_action send_action super_action read_place write_place with_opened with_block with_arguments with_message exception_slots with_exception closure_for trouble_literals code_at own_variables captured_variables operand_at with_operand instruction_at with_flat_block variable_at compiled_body compile_of
+unfolding at_index first_state step_made stood used scope_up scoped_variable with_scoped_variable first_variables count_true scope_cells with_scope stands is_live turn_of same_text text_less is_upper is_lower is_digit is_letter to_upper to_lower all_bytes is_identifier are_keywords is_keywords holds_byte is_operators count_byte arity quotes_doubled quoted symbol_text with_article body_at class_at name_at number_of row_at built_in_class_rows level_of superclasses inherits walk method_at found_at found_in lookup super_lookup class_of class_text is_exception is_plain fits with_new makes_slots makes_bytes makes_string makes_blank same_value is_a bytes_of slots_of slot_of interval_size size_of element some_elements elements key is_sequence is_collection species print_text exception_text object_action class_action boolean_action gcd_within gcd shifted as_number argument_of arithmetic_action last_digits number_action character_action string_action transcript_action makes_sequence sequence_action grown_to with_elements without_element collection_action closure_of block_action exception_action is_within visit_at given_at next_visit first_of_message first_visit loop_action row_action send_action super_action read_place write_place with_opened with_block with_arguments with_message exception_slots with_exception closure_for trouble_literals code_at own_variables captured_variables operand_at with_operand instruction_at with_flat_block variable_at compiled_body compile_of
 computing = tt

@@ -251,11 +251,17 @@ module _ (p : Program) (g : Places) where
   kept_follows v s acts st h e =
       subst (λ z. Follows p g (Settle (Answer v) (Fa st acts) (record (Fs st) { store = with_rest (flat_closures g st.store.closures) g.scopes z })) (Settle (Answer v) acts (record st { store = z }))) e (refl, h)
 
+  -- the same, where a closure may be added
+  made_follows : (v : Value) (s : Store) (acts : List (Act ScopedBody)) (st : State) → Holds st acts → s.scopes ≡ st.store.scopes → ClosuresHold p st.store.scopes s.closures → Follows p g (Settle (Answer v) (Fa st acts) (record (Fs st) { store = flat_store g s })) (Settle (Answer v) acts (record st { store = s }))
+  made_follows v s acts st h e i =
+      subst (λ ss. Follows p g (Settle (Answer v) (Fa st acts) (record (Fs st) { store = flat_store g s })) (Settle (Answer v) acts (record st { store = record { objects = s.objects; closures = s.closures; scopes = ss } }))) (sym e)
+      (refl, (record { scopes = h.0.scopes; closures = i }, h.1))
+
   pub perform_follows : (a : Action) (env : Env) (acts : List (Act ScopedBody)) (st : State) → Holds st acts → ActionHolds p st.store.closures st.store.scopes a → Follows p g (perform_act F p (flat_action p g st.store.closures a) env (Fa st acts) (Fs st)) (perform_act S p a env acts st)
   unfolding with_arguments with_message with_new
   perform_follows (Gives v) env acts st h i = (refl, h)
   perform_follows (Changes s v) env acts st h i = kept_follows v s acts st h i
-  perform_follows (Makes cells s v) env acts st h i = used_follows cells acts st _ _ (λ c. kept_follows v s acts (record st { cells = c }) h i)
+  perform_follows (Makes cells s v) env acts st h i = used_follows cells acts st _ _ (λ c. made_follows v s acts (record st { cells = c }) h i.0 i.1)
   perform_follows (Writes text v) env acts st h i = (refl, h)
   perform_follows (Fails trouble) env acts st h i = (refl, h.0, tt, h.1)
   perform_follows (DividesByZero dividend) env acts st h i = (refl, h.0, tt, h.1)

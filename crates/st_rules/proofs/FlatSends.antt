@@ -1,22 +1,24 @@
 -- A send does the same at once on both machines: what it finds, and what that does.
-use Rattle.std.proofs.Common.{◌≡◌, ℕ, pos, List, [], ◌∷◌, length, Option, Some, None, Bool, true, false, refl, sym, subst, arith, nat_eq, if◌then◌else◌, drop}
+use Rattle.std.proofs.Common.{◌≡◌, ℕ, pos, List, [], ◌∷◌, ◌++◌, length, Option, Some, None, Bool, true, false, refl, sym, ap, ◌∙◌, subst, arith, nat_eq, if◌then◌else◌, drop}
 use Rattle.std.specs.Option.{option_map}
+use Rattle.std.proofs.lemmas.List.{length-map, map-append}
 use Rattle.object_heap.specs.declared.value.Value.{Value}
-use Rattle.object_heap.specs.declared.value.Value.TheVariants.{Nil, Integer}
+use Rattle.object_heap.specs.declared.value.Value.TheVariants.{Nil, Integer, Object}
 use Rattle.object_heap.specs.declared.value.Closure.{Closure}
 use Rattle.object_heap.specs.declared.trouble.Trouble.TheVariants.{WrongNumberOfArguments, CollectionExpected}
-use Rattle.object_heap.specs.Store.{Store}
+use Rattle.object_heap.specs.Store.{Store, Object as HeapObject, block_added, block_object, closure_at, object_at}
 use Rattle.st_code.specs.Program.{Program, MethodRow, InMethod, body_at}
 use Rattle.st_code.specs.BuiltIns.{array_class}
-use Rattle.st_code.specs.Messages.{Row, Objects, Classes, Booleans, Numbers, Characters, Transcripts, Strings, Sequences, Collections, Blocks, Exceptions, Loops, Slots, BlockMessage}
+use Rattle.st_code.specs.Messages.{Row, Objects, Classes, Booleans, Numbers, Characters, Transcripts, Strings, Sequences, Collections, Blocks, Exceptions, Loops, Slots, BlockMessage, ObjectMessage}
 use Rattle.st_code.specs.Lookup.{Level, level_of, class_level, walk, Found, UserMethod, BuiltIn, method_at, found_at, found_in, lookup, super_lookup}
-use Rattle.st_collections.specs.Actions.{Action, Gives, Changes, Makes, Writes, Fails, DividesByZero, PassesIntegers, Begins, Activates, Sends, Misses, Enters, Guards, Ensures, Curtails, Iterates, Raises, RaisesNew, Controls, Terminates, first, second}
+use Rattle.st_collections.specs.Actions.{Action, Gives, Changes, Makes, Writes, Fails, DividesByZero, PassesIntegers, Begins, Activates, Sends, Misses, Enters, Guards, Ensures, Curtails, Iterates, Raises, RaisesNew, Controls, Terminates, first, next_object, second}
 use Rattle.st_collections.specs.Kinds.{is_a, slots_of, slot_of}
+use Rattle.st_collections.specs.ObjectRows.{copied, object_action}
 use Rattle.st_rules.specs.Sends.{row_action, send_action, super_action}
 use Rattle.st_rules.specs.ExceptionRows.{closure_of, block_action}
 use Rattle.st_rules.specs.Compilable.{Body, AllMethods, Compilable}
 use Rattle.st_rules.proofs.SameRows.{with_rest, relabeled, object_free, class_free, boolean_free, number_free, character_free, transcript_free, string_free, sequence_free, collection_free, exception_free, loop_free}
-use Rattle.st_rules.proofs.Flattening.{Places, placed, flat_closures, flat_store, flat_action, StoreHolds, ClosureHolds, ActionHolds}
+use Rattle.st_rules.proofs.Flattening.{Places, placed, flat_closures, flat_store, flat_action, StoreHolds, ClosureHolds, ClosuresHold, ActionHolds}
 use Rattle.st_rules.proofs.FlatControl.{Both, both_of}
 
 -- ---- methods
@@ -77,7 +79,12 @@ module _ (p : Program) (g : Places) (s : Store) (holds : StoreHolds p g s.scopes
   row_same : (a' a : Action) → a' ≡ relabeled (flat_closures g s.closures) g.scopes a → a ≡ relabeled s.closures s.scopes a → Same a' a
   row_same a' (Gives v) e f = (e, tt)
   row_same a' (Changes t v) e f = (e, sym (changes_store t (with_rest s.closures s.scopes t) v f))
-  row_same a' (Makes n t v) e f = (e, sym (makes_store n t (with_rest s.closures s.scopes t) v f))
+  row_same a' (Makes n t v) e f =
+      let kept : t ≡ with_rest s.closures s.scopes t = makes_store n t (with_rest s.closures s.scopes t) v f in
+      let closures : t.closures ≡ s.closures = ap (λ (x : Store). x.closures) kept in (
+        e ∙ ap (λ (cs : List Closure). Makes n (with_rest (flat_closures g cs) g.scopes t) v) (sym closures),
+        (ap (λ (x : Store). x.scopes) kept, subst (λ (cs : List Closure). ClosuresHold p s.scopes cs) (sym closures) holds.closures),
+      )
   row_same a' (Writes text v) e f = (e, tt)
   row_same a' (Fails trouble) e f = (e, tt)
   row_same a' (DividesByZero v) e f = (e, tt)
@@ -139,9 +146,32 @@ module _ (p : Program) (g : Places) (s : Store) (holds : StoreHolds p g s.scopes
   unfolding block_action
   block_same m r args = block_by_same m r (closure_of s r) (closure_of (flat_store g s) r) args (both_of p g s r holds.closures)
 
+  -- ---- a copy
+
+  closure_added : (cs : List Closure) (c : Closure) → ClosuresHold p s.scopes cs → ClosureHolds p s.scopes c → ClosuresHold p s.scopes (cs ++ c ∷ [])
+  closure_added [] c h i = (i, tt)
+  closure_added (d ∷ cs) c h i = (h.0, closure_added cs c h.1 i)
+
+  blocks_same : (class : ℕ) (c : Closure) → block_added class (placed g.places c) (flat_store g s) ≡ flat_store g (block_added class c s)
+  blocks_same class c =
+      ap (λ n. record { objects = s.objects ++ block_object class n ∷ []; closures = flat_closures g s.closures ++ placed g.places c ∷ []; scopes = g.scopes }) (length-map s.closures (placed g.places))
+      ∙ ap (λ cs. record { objects = s.objects ++ block_object class (length s.closures) ∷ []; closures = cs; scopes = g.scopes }) (sym (map-append (placed g.places) s.closures (c ∷ [])))
+
+  copied_same : (o : HeapObject) (c c' : Option Closure) → Both p g s.scopes c c' → Same (copied (flat_store g s) o c') (copied s o c)
+  copied_same o None c' b = subst (λ x. Same (copied (flat_store g s) o x) (copied s o None)) (sym b) (refl, (refl, holds.closures))
+  copied_same o (Some c) c' b =
+      subst (λ x. Same (copied (flat_store g s) o x) (copied s o (Some c))) (sym b.0)
+      (ap (λ (t : Store). Makes 2 t (next_object s)) (blocks_same o.class c), (refl, closure_added s.closures c holds.closures b.1))
+
+  copy_same : (r : Value) (args : List Value) → Same (object_action p (flat_store g s) ObjectMessage.Copy r args) (object_action p s ObjectMessage.Copy r args)
+  unfolding object_action closure_of
+  copy_same (Object n) args = copied_same (object_at n s) (closure_at n s) (closure_at n (flat_store g s)) (both_of p g s (Object n) holds.closures)
+  copy_same r args = (refl, tt)
+
   rows_same : (row : Row) (r : Value) (args : List Value) → Same (row_action p (flat_store g s) row r args) (row_action p s row r args)
   unfolding row_action slot_of slots_of
-  rows_same (Objects m) r args = row_same _ _ (object_free p s (flat_closures g s.closures) g.scopes m r args) (object_free p s s.closures s.scopes m r args)
+  rows_same (Objects ObjectMessage.Copy) r args = copy_same r args
+  rows_same (Objects m) r args = row_same _ _ (object_free p s (flat_closures g s.closures) g.scopes m r args tt) (object_free p s s.closures s.scopes m r args tt)
   rows_same (Classes m) r args = row_same _ _ (class_free p s (flat_closures g s.closures) g.scopes m r args) (class_free p s s.closures s.scopes m r args)
   rows_same (Booleans m) r args = row_same _ _ (boolean_free p s (flat_closures g s.closures) g.scopes m r args) (boolean_free p s s.closures s.scopes m r args)
   rows_same (Numbers m) r args = row_same _ _ (number_free p s (flat_closures g s.closures) g.scopes m r args) (number_free p s s.closures s.scopes m r args)

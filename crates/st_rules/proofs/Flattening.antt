@@ -116,7 +116,7 @@ module _ (p : Program) where
 
   abbrev pub flat_action : Places → List Closure → Action → Action
   flat_action g cs (Changes s v) = Changes (with_rest (flat_closures g cs) g.scopes s) v
-  flat_action g cs (Makes n s v) = Makes n (with_rest (flat_closures g cs) g.scopes s) v
+  flat_action g cs (Makes n s v) = Makes n (flat_store g s) v
   flat_action g cs (Raises s e) = Raises (with_rest (flat_closures g cs) g.scopes s) e
   flat_action g cs (Activates c args) = Activates (placed g.places c) args
   flat_action g cs a = a
@@ -205,7 +205,7 @@ module _ (p : Program) where
 
   abbrev pub ActionHolds : List Closure → List Scope → Action → Type 0
   ActionHolds cs ss (Changes s v) = Keeps cs ss s
-  ActionHolds cs ss (Makes n s v) = Keeps cs ss s
+  ActionHolds cs ss (Makes n s v) = (s.scopes ≡ ss) × ClosuresHold ss s.closures
   ActionHolds cs ss (Raises s e) = Keeps cs ss s
   ActionHolds cs ss (Activates c args) = ClosureHolds ss c
   ActionHolds cs ss (Enters code r args) = Body p code InMethod None

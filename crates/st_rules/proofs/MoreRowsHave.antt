@@ -1,25 +1,25 @@
 -- What messages to objects, collections, blocks and exceptions do at once gives values that are there.
-use Rattle.std.proofs.Common.{refl, ℕ, suc, ◌+◌, ◌-◌, ◌<◌, ℤ, pos, negsuc, nat_eq, nat_le, nat_lt, int_lt, int_le, is_some, codes, length, get_or, take, drop, reverse, replicate, map, insert, List, [], ◌∷◌, ◌++◌, Option, Some, None, Bool, true, false, not, ◌&&◌, ◌||◌, if◌then◌else◌}
+use Rattle.std.proofs.Common.{◌≡◌, refl, inr, ℕ, suc, ◌+◌, ◌-◌, ◌<◌, ℤ, pos, negsuc, nat_eq, nat_le, nat_lt, int_lt, int_le, is_some, codes, length, get_or, take, drop, reverse, replicate, map, insert, List, [], ◌∷◌, ◌++◌, Option, Some, None, Bool, true, false, not, ◌&&◌, ◌||◌, if◌then◌else◌}
 use Rattle.object_heap.specs.declared.value.Value.{Value}
 use Rattle.object_heap.specs.declared.value.Value.TheVariants.{Nil, True, False, Integer, Character, Symbol, Class, Meta, Transcript, Object}
 use Rattle.object_heap.specs.declared.trouble.Trouble.{Trouble}
 use Rattle.object_heap.specs.declared.trouble.Trouble.TheVariants as trouble
-use Rattle.object_heap.specs.Store.{Store, Object as HeapObject, object_at, object_added, with_slot, with_byte}
-use Rattle.object_heap.specs.Charges.{object_charge}
+use Rattle.object_heap.specs.declared.value.Closure.{Closure}
+use Rattle.object_heap.specs.Store.{Store, Object as HeapObject, block_object, closure_at, object_at, with_slot, with_byte}
 use Rattle.st_code.specs.Texts.{Text, arity, same_text, text_less, to_lower}
 use Rattle.st_code.specs.Program.{Program, Indexed, NoIndexes, ByObject, ByByte, Side, OfInstance, OfClass, OfMeta, class_at, name_at, number_of}
 use Rattle.st_code.specs.BuiltIns.{string_class, symbol_class, array_class, ordered_collection_class, association_class, byte_array_class, exception_set_class, metaclass_class}
 use Rattle.st_code.specs.Lookup.{level_of, lookup, class_of, is_plain, is_exception, fits}
 use Rattle.st_code.specs.Messages.{ObjectMessage, ClassMessage, CharacterMessage, StringMessage, SequenceMessage, ExceptionMessage, LoopMessage, BooleanMessage, CollectionMessage, TranscriptMessage}
-use Rattle.st_collections.specs.Actions.{Action, Gives, Changes, Makes, Writes, Fails, Begins, Sends, Iterates, first, second, boolean, next_object, makes_slots, makes_bytes, makes_string, makes_blank}
+use Rattle.st_collections.specs.Actions.{Action, Gives, Changes, Makes, Writes, Fails, Begins, Sends, Iterates, first, second, boolean, makes_slots, makes_bytes, makes_string, makes_blank}
 use Rattle.st_collections.specs.Kinds.{is_true, is_a, bytes_of, slots_of, slot_of, size_of, element, some_elements, elements, is_sequence, is_collection, species, print_text, exception_text, integer_of, natural_of}
-use Rattle.st_collections.specs.ObjectRows.{indexed, byte_put, object_action, class_action, boolean_action}
+use Rattle.st_collections.specs.ObjectRows.{copied, copy, indexed, byte_put, object_action, class_action, boolean_action}
 use Rattle.st_collections.specs.TextRows.{with_character, from_code_point, with_text, new_string, string_at, or_empty, byte_of, character_action, string_action, transcript_action}
 use Rattle.st_collections.specs.SequenceRows.{makes_sequence, element_trouble, at_put, join, copy_between, copy_from_to, with_elements, without_element, firsts, seconds, written, is_index, ordered_at, changed, sequence_action, collection_action}
 use Rattle.st_collections.specs.Loops.{loop_action}
 use Rattle.st_rules.specs.ExceptionRows.{exception_at, to_exception, kept_or_text, handles, new_exception, signal_new, selectors_of, exception_action}
-use Rattle.st_rules.specs.Objects.{Has, AllHave, ObjectsHave, Grown}
-use Rattle.st_rules.proofs.ValuesHave.{first_has, second_has, get_has, append_has, take_has, drop_has, nils_have, reverse_has, grown_itself, grown_byte, grown_added, next_has, grown_set, set_keeps, object_slots, grown_slot}
+use Rattle.st_rules.specs.Objects.{Has, AllHave, ObjectsHave, Grown, OneAgain}
+use Rattle.st_rules.proofs.ValuesHave.{first_has, second_has, get_has, append_has, take_has, drop_has, nils_have, reverse_has, grown_itself, grown_byte, grown_added, made_plain, next_has, one_again, grown_set, set_keeps, object_slots, grown_slot}
 use Rattle.st_rules.proofs.RowsHave.{Gets, got, slots_have, slot_has, element_has, some_have, elements_have, if_has, indexed_has, slots_made, bytes_made, string_made, blank_made, sequence_made, byte_written, slot_written, character_has, answers, no_trouble}
 
 module _ (p : Program) (s : Store) (h : ObjectsHave (length s.objects) s.objects) where
@@ -57,21 +57,16 @@ module _ (p : Program) (s : Store) (h : ObjectsHave (length s.objects) s.objects
   responds r (Symbol name) = answers p s h _
   responds r v = record { gets = tt }
 
-  copied_has : (c : Option ℕ) (n : ℕ) (o : HeapObject) (f : ℕ → HeapObject) → AllHave k o.slots → ((j : ℕ) → AllHave k (f j).slots) → G (elim c [ None ↦ Makes n (object_added o s) (next_object s) | Some j ↦ Makes 2 (object_added (f j) s) (next_object s) ])
-  copied_has None n o f g i = record { gets = (grown_added s h o g, next_has s h o) }
-  copied_has (Some j) n o f g i = record { gets = (grown_added s h (f j) (i j), next_has s h (f j)) }
+  copied_has : (o : HeapObject) (c : Option Closure) → AllHave k o.slots → ((d : Closure) → c ≡ Some d → OneAgain s.closures (s.closures ++ d ∷ [])) → G (copied s o c)
+  copied_has o None g again =
+      let like : HeapObject = record { class = o.class; slots = o.slots; bytes = o.bytes; capacity = length o.slots; read_only = false; closure = None } in
+      record { gets = (made_plain s _ (grown_added s h like g), next_has s h like) }
+  copied_has o (Some c) g again =
+      let block : HeapObject = block_object o.class (length s.closures) in
+      record { gets = (record { grown = grown_added s h block tt; closures = inr (again c refl) }, next_has s h block) }
 
-  abbrev copy : Value → Action
-  copy (Object number) = elim (object_at number s).closure [
-    | None ↦ Makes (object_charge (length (object_at number s).slots) (length (object_at number s).bytes)) (object_added (record { class = (object_at number s).class; slots = (object_at number s).slots; bytes = (object_at number s).bytes; capacity = length (object_at number s).slots; read_only = false; closure = None }) s) (next_object s)
-    | Some j ↦ Makes 2 (object_added (record { class = (object_at number s).class; slots = []; bytes = []; capacity = 0; read_only = false; closure = Some j }) s) (next_object s)
-  ]
-  copy v = Gives v
-
-  copies : (v : Value) → Has k v → G (copy v)
-  copies (Object number) g =
-      let o = object_at number s in
-      copied_has o.closure (object_charge (length o.slots) (length o.bytes)) (record { class = o.class; slots = o.slots; bytes = o.bytes; capacity = length o.slots; read_only = false; closure = None }) (λ j. record { class = o.class; slots = []; bytes = []; capacity = 0; read_only = false; closure = Some j }) (object_slots s h number) (λ j. tt)
+  copies : (v : Value) → Has k v → G (copy s v)
+  copies (Object number) g = copied_has (object_at number s) (closure_at number s) (object_slots s h number) (λ d e. one_again s number d e)
   copies v g = record { gets = tt }
 
   text_or_sent : (o : Option Text) (selector : ℕ) (r : Value) → Has k r → G (elim o [ Some bytes ↦ makes_string bytes s | None ↦ Sends selector r [] ])
@@ -402,7 +397,7 @@ module _ (p : Program) (s : Store) (h : ObjectsHave (length s.objects) s.objects
   elements_keep n slots v g = set_keeps s h n _ v g
 
   added_has : (n : ℕ) (slots : List Value) (v : Value) → AllHave k slots → Has k v → G (Makes (with_elements s n slots).cells (with_elements s n slots).store v)
-  added_has n slots v g i = record { gets = (elements_grown n slots g, elements_keep n slots v i) }
+  added_has n slots v g i = record { gets = (made_plain s _ (elements_grown n slots g), elements_keep n slots v i) }
 
   pub element_removed : (n i : ℕ) → Grown s (without_element s n i)
   unfolding without_element

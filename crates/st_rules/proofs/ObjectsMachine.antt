@@ -18,8 +18,8 @@ use Rattle.st_rules.specs.Rules.{Use, Apply, Activate, Enter, SendTo, SuperTo, P
 use Rattle.st_rules.specs.Machine.{Act, BodyAct, Leaving, ProtectAct, EnsureOn, CurtailOn, ActionOff, SignalAct, HandlerRun, OuterAct, ResumeWait, HandlesWait, LoopAct, Mach, Run, Settle, Begin, Bodies, marks, open_act, raise_act, raise_new_act, tried_act, judged_act, search_act, turn_act, pass_act, asked_act, resignal_act, resignal_as_act, control_by_act, control_without_act, control_in_act, control_act, visit_act, perform_act, begin, protect_verdict, signal_verdict, give, unwind, step}
 use Rattle.st_rules.specs.Flat.{FlatBody, flat_number}
 use Rattle.st_rules.specs.Flattened.{flat_of}
-use Rattle.st_rules.specs.Objects.{Has, AllHave, ObjectsHave, ScopesHave, ClosuresHave, EntryHas, EnvHas, EntryOrNone, TurnHas, OutcomeHas, PurposeHas, SearchHas, WaitHas, Grown, VisitHas, ActionHas, UseHas, BodyHas, ActsHave, StateHas, MachHas, KnowsLiterals}
-use Rattle.st_rules.proofs.ValuesHave.{has_later, all_later, scopes_later, closures_later, env_later, acts_later, append_has, take_has, nils_have, grown_new, next_new}
+use Rattle.st_rules.specs.Objects.{Has, AllHave, ObjectsHave, ScopesHave, ClosuresHave, EntryHas, EnvHas, EntryOrNone, TurnHas, OutcomeHas, PurposeHas, SearchHas, WaitHas, Grown, VisitHas, ActionHas, UseHas, BodyHas, ActsHave, StateHas, MachHas, KnowsLiterals, Made, with_closures}
+use Rattle.st_rules.proofs.ValuesHave.{has_later, all_later, scopes_later, closures_later, closures_made, env_later, acts_later, append_has, take_has, nils_have, grown_new, next_new}
 use Rattle.st_rules.proofs.VisitsHave.{first_visit_has, next_visit_has}
 use Rattle.st_rules.proofs.SendsHave.{ClosureOr, closure_for_has, send_has, super_has}
 
@@ -70,6 +70,11 @@ grown_here p acts st s h e = (
   ),
   acts_later (size st) (length s.objects) e.more acts h.1,
 )
+
+pub made_here : (p : Program) (acts : List (Act FlatBody)) (st : State) (s : Store) → Here p acts st → Made st.store s → Here p acts (record st { store = s })
+made_here p acts st s h e =
+    let x = grown_here p acts st (with_closures st.store.closures s) h e.grown in
+    ((x.0.0, x.0.1, x.0.2, closures_made (length s.objects) st.store.closures s.closures e.closures x.0.3, x.0.4), x.1)
 
 module _ (p : Program) (known : KnowsLiterals p) where
   abbrev F : Bodies FlatBody
@@ -246,10 +251,13 @@ module _ (p : Program) (known : KnowsLiterals p) where
     changed : (v : Value) (s : Store) (acts : List (Act FlatBody)) (st : State) → Here p acts st → Grown st.store s → Has (length s.objects) v → MachHas p (Settle (Answer v) acts (record st { store = s }))
     changed v s acts st h e g = let x = grown_here p acts st s h e in (x.0, g, x.1)
 
+    made : (v : Value) (s : Store) (acts : List (Act FlatBody)) (st : State) → Here p acts st → Made st.store s → Has (length s.objects) v → MachHas p (Settle (Answer v) acts (record st { store = s }))
+    made v s acts st h e g = let x = made_here p acts st s h e in (x.0, g, x.1)
+
     perform_has : (a : Action) (env : Env) (acts : List (Act FlatBody)) (st : State) → Here p acts st → ActionHas st.store a → EnvHas (size st) env → MachHas p (perform_act F p a env acts st)
     perform_has (Gives v) env acts st h g e = (h.0, g, h.1)
     perform_has (Changes s v) env acts st h g e = changed v s acts st h g.0 g.1
-    perform_has (Makes cells s v) env acts st h g e = used_has p cells st _ _ (h.0, tt, h.1) (λ c. changed v s acts (record st { cells = c }) h g.0 g.1)
+    perform_has (Makes cells s v) env acts st h g e = used_has p cells st _ _ (h.0, tt, h.1) (λ c. made v s acts (record st { cells = c }) h g.0 g.1)
     perform_has (Writes text v) env acts st h g e = (h.0, g, h.1)
     perform_has (Fails trouble) env acts st h g e = fails trouble env acts st h e
     perform_has (DividesByZero dividend) env acts st h g e = (h.0, ((text_has trouble.ZeroDivide acts st h, (g, tt)), e), h.1)

@@ -13,7 +13,7 @@ use Rattle.st_collections.specs.ObjectRows.{indexed, index_in, byte_value, byte_
 use Rattle.st_collections.specs.TextRows.{with_character}
 use Rattle.st_collections.specs.SequenceRows.{makes_sequence}
 use Rattle.st_rules.specs.Objects.{Has, AllHave, ObjectsHave, ActionHas}
-use Rattle.st_rules.proofs.ValuesHave.{boolean_has, get_has, nils_have, grown_new, next_new, set_keeps, object_slots, grown_slot, grown_byte}
+use Rattle.st_rules.proofs.ValuesHave.{boolean_has, get_has, nils_have, grown_new, made_plain, next_new, set_keeps, object_slots, grown_slot, grown_byte}
 
 module _ (p : Program) (s : Store) (h : ObjectsHave (length s.objects) s.objects) where
   abbrev k : ℕ
@@ -104,11 +104,11 @@ module _ (p : Program) (s : Store) (h : ObjectsHave (length s.objects) s.objects
 
   pub slots_made : (class : ℕ) (slots : List Value) → AllHave k slots → Gets (makes_slots class slots s)
   unfolding makes_slots
-  slots_made class slots g = record { gets = (grown_new s h class slots [] g, next_new s h class slots []) }
+  slots_made class slots g = record { gets = (made_plain s _ (grown_new s h class slots [] g), next_new s h class slots []) }
 
   pub bytes_made : (class : ℕ) (bytes : List ℕ) → Gets (makes_bytes class bytes s)
   unfolding makes_bytes
-  bytes_made class bytes = record { gets = (grown_new s h class [] bytes tt, next_new s h class [] bytes) }
+  bytes_made class bytes = record { gets = (made_plain s _ (grown_new s h class [] bytes tt), next_new s h class [] bytes) }
 
   pub string_made : (bytes : List ℕ) → Gets (makes_string bytes s)
   unfolding makes_string
@@ -116,7 +116,7 @@ module _ (p : Program) (s : Store) (h : ObjectsHave (length s.objects) s.objects
 
   pub blank_made : (class slots bytes : ℕ) → Gets (makes_blank class slots bytes s)
   unfolding makes_blank
-  blank_made class slots bytes = record { gets = (grown_new s h class (replicate slots Nil) (replicate bytes 0) (nils_have k slots), next_new s h class (replicate slots Nil) (replicate bytes 0)) }
+  blank_made class slots bytes = record { gets = (made_plain s _ (grown_new s h class (replicate slots Nil) (replicate bytes 0) (nils_have k slots)), next_new s h class (replicate slots Nil) (replicate bytes 0)) }
 
   pub sequence_made : (class : ℕ) (items : List Value) → AllHave k items → Gets (makes_sequence class items s)
   unfolding makes_sequence

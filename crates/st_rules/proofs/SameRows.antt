@@ -1,4 +1,4 @@
--- What a message does at once reads neither scopes nor closures, and leaves them as they are: only the messages of Blocks do.
+-- What a message does at once reads neither scopes nor closures, and leaves them as they are: only `copy` and the messages of Blocks do.
 use Rattle.std.proofs.Common.{◌≡◌, ℕ, zero, suc, ◌+◌, ℤ, pos, negsuc, nat_abs, nat_eq, nat_le, nat_lt, ◌^◌, ◌&&◌, if◌then◌else◌, List, [], ◌∷◌, Option, Some, None, Bool, true, false, refl, ap, arith}
 use Rattle.object_heap.specs.declared.value.Value.{Value}
 use Rattle.object_heap.specs.declared.value.Value.TheVariants.{Nil, Integer, Symbol, Object}
@@ -42,6 +42,11 @@ abbrev put_given : Store → ℕ → ℕ → ℕ → Value → Action
 put_given s number class i v =
     if nat_eq class string_class then with_character v (λ b. Changes (with_byte number i b s) v) else
     (if nat_eq class byte_array_class then byte_put s number i v else Changes (with_slot number i v s) v)
+
+-- a message of objects that reads no closure: all but `copy`
+abbrev pub IsFree : ObjectMessage → Type 0
+IsFree ObjectMessage.Copy = ⊥
+IsFree m = Unit {0}
 
 module _ (p : Program) (s : Store) (cl : List Closure) (sc : List Scope) where
   abbrev other : Store
@@ -123,10 +128,6 @@ module _ (p : Program) (s : Store) (cl : List Closure) (sc : List Scope) where
   unfolding object_action class_of level_of bytes_of print_text is_a slots_of slot_of with_new makes_slots makes_bytes makes_string makes_blank
   object_responds_to r args = grind arith
 
-  object_copy : (r : Value) (args : List Value) → object_action p other ObjectMessage.Copy r args ≡ relabeled cl sc (object_action p s ObjectMessage.Copy r args)
-  unfolding object_action class_of level_of bytes_of print_text is_a slots_of slot_of with_new makes_slots makes_bytes makes_string makes_blank
-  object_copy r args = grind arith
-
   object_size : (r : Value) (args : List Value) → object_action p other ObjectMessage.Size r args ≡ relabeled cl sc (object_action p s ObjectMessage.Size r args)
   unfolding object_action class_of level_of bytes_of print_text is_a slots_of slot_of with_new makes_slots makes_bytes makes_string makes_blank
   object_size r args = grind arith
@@ -151,18 +152,18 @@ module _ (p : Program) (s : Store) (cl : List Closure) (sc : List Scope) where
   unfolding object_action
   object_at_put n args = kind_by _ _ _ _ _ _ _ refl (indexed_by (first args) _ _ _ (λ i. refl)) (indexed_by (first args) _ _ _ (λ i. byte_put_free n i (second args)))
 
-  pub object_free : (m : ObjectMessage) (r : Value) (args : List Value) → object_action p other m r args ≡ relabeled cl sc (object_action p s m r args)
+  pub object_free : (m : ObjectMessage) (r : Value) (args : List Value) → IsFree m → object_action p other m r args ≡ relabeled cl sc (object_action p s m r args)
   unfolding object_action class_of level_of bytes_of print_text is_a slots_of slot_of with_new makes_slots makes_bytes makes_string makes_blank
-  object_free ObjectMessage.RespondsTo r args = object_responds_to r args
-  object_free ObjectMessage.Copy r args = object_copy r args
-  object_free ObjectMessage.Size r args = object_size r args
-  object_free ObjectMessage.At r args = object_read_at r args
-  object_free ObjectMessage.Perform r args = object_perform r args
-  object_free ObjectMessage.PerformWithArguments r args = object_perform_with_arguments r args
-  object_free ObjectMessage.DisplayString r args = object_display r args
-  object_free ObjectMessage.AtPut (Object n) args = object_at_put n args
-  object_free ObjectMessage.IsSymbol (Symbol name) args = refl
-  object_free m r args = refl
+  object_free ObjectMessage.RespondsTo r args h = object_responds_to r args
+  object_free ObjectMessage.Copy r args h = absurd h
+  object_free ObjectMessage.Size r args h = object_size r args
+  object_free ObjectMessage.At r args h = object_read_at r args
+  object_free ObjectMessage.Perform r args h = object_perform r args
+  object_free ObjectMessage.PerformWithArguments r args h = object_perform_with_arguments r args
+  object_free ObjectMessage.DisplayString r args h = object_display r args
+  object_free ObjectMessage.AtPut (Object n) args h = object_at_put n args
+  object_free ObjectMessage.IsSymbol (Symbol name) args h = refl
+  object_free m r args h = refl
 
   numeric_free : (dividend r v : Value) (a : NumberAnswer) → numeric_action other dividend r v a ≡ relabeled cl sc (numeric_action s dividend r v a)
   unfolding makes_slots with_new

@@ -1,5 +1,5 @@
 -- Self is of the class that a body is written in: a law for each small step of the flat machine.
-use Rattle.std.proofs.Common.{◌≡◌, ℕ, ◌+◌, ◌<◌, ◌≤◌, max, length, List, [], ◌∷◌, Option, Some, None, Bool, true, false, drop, lt-ltb, refl, sym, ap, subst, arith, nat_lt, nat_le, if◌then◌else◌}
+use Rattle.std.proofs.Common.{◌≡◌, ℕ, ◌+◌, ◌<◌, ◌≤◌, max, length, List, [], ◌∷◌, Option, Some, None, Bool, true, false, drop, lt-ltb, refl, sym, ap, subst, arith, nat_lt, nat_le, if◌then◌else◌, ◌++◌, zero, suc, inl, inr, slice_get}
 use Rattle.object_heap.specs.declared.value.Value.{Value}
 use Rattle.object_heap.specs.declared.value.Value.TheVariants.{Nil, True, False, Integer, Character, Symbol, Class, Meta, Transcript, Object}
 use Rattle.object_heap.specs.declared.value.Closure.{Closure}
@@ -19,7 +19,7 @@ use Rattle.st_rules.specs.Flat.{FlatBody, flat_number, code_at, operand_pushed, 
 use Rattle.st_rules.specs.Turns.{On}
 use Rattle.st_rules.specs.NothingMissing.{own_count, HasRoom, ValueHas}
 use Rattle.st_rules.specs.Flattened.{flat_of}
-use Rattle.st_rules.specs.Objects.{Has, AllHave, ObjectsHave, ClosuresHave, Grown, VisitHas, ActionHas, UseHas, ActHas, ActsHave, KnowsLiterals}
+use Rattle.st_rules.specs.Objects.{Has, AllHave, ObjectsHave, ClosuresHave, Grown, VisitHas, ActionHas, UseHas, ActHas, ActsHave, KnowsLiterals, Made, SameOrOneAgain}
 use Rattle.st_rules.specs.Selves.{OnWalk, IsOf, KnowsClasses, BodyFits, ActFits, ActsFit}
 use Rattle.st_rules.proofs.SuperSends.{SendsToSelf}
 use Rattle.st_rules.proofs.ValuesHave.{append_has, take_has, nils_have, grown_new, next_new}
@@ -134,25 +134,42 @@ slots_have : (p : Program) (k c : ℕ) (slots : List Value) → AllHave k slots 
 unfolding exception_slots
 slots_have p k c slots g = take_has k (class_at p c).slots _ (append_has k slots _ g (nils_have k _))
 
-exception_grows : (p : Program) (c : ℕ) (slots : List Value) (st : State) → ObjectsHave (size st) st.store.objects → AllHave (size st) slots → Grown st.store (with_exception p c slots st.store)
+pub exception_grows : (p : Program) (c : ℕ) (slots : List Value) (st : State) → ObjectsHave (size st) st.store.objects → AllHave (size st) slots → Grown st.store (with_exception p c slots st.store)
 unfolding with_exception
 exception_grows p c slots st h g = grown_new st.store h c (exception_slots p c slots) [] (slots_have p (size st) c slots g)
 
-arguments_grow : (args : List Value) (st : State) → ObjectsHave (size st) st.store.objects → AllHave (size st) args → Grown st.store (with_arguments args st.store)
+pub arguments_grow : (args : List Value) (st : State) → ObjectsHave (size st) st.store.objects → AllHave (size st) args → Grown st.store (with_arguments args st.store)
 unfolding with_arguments
 arguments_grow args st h i = grown_new st.store h _ args [] i
 
-arguments_there : (args : List Value) (st : State) → ObjectsHave (size st) st.store.objects → Has (length (with_arguments args st.store).objects) (next_object st.store)
+pub arguments_there : (args : List Value) (st : State) → ObjectsHave (size st) st.store.objects → Has (length (with_arguments args st.store).objects) (next_object st.store)
 unfolding with_arguments
 arguments_there args st h = next_new st.store h _ args []
 
-message_grows : (c : ℕ) (array : Value) (s : Store) → ObjectsHave (length s.objects) s.objects → Has (length s.objects) array → Grown s (with_message c array s)
+pub message_grows : (c : ℕ) (array : Value) (s : Store) → ObjectsHave (length s.objects) s.objects → Has (length s.objects) array → Grown s (with_message c array s)
 unfolding with_message
 message_grows c array s h g = grown_new s h _ (Symbol c ∷ array ∷ []) [] (tt, (g, tt))
 
 pub grown_rest : (p : Program) (acts : List (Act FlatBody)) (st : State) (s : Store) → Here p acts st → Rest p acts st → Grown st.store s → Rest p acts (record st { store = s })
 grown_rest p acts st s h r e =
     (subst (λ cs. ClosuresFit p s cs) (sym e.closures) (closures_later p st.store s e.classes st.store.closures h.0.3 r.0), (acts_later p st.store s e.classes acts h.1 r.1.0, r.1.1))
+
+closure_fits : (p : Program) (s : Store) (cs : List Closure) (n : ℕ) (c : Closure) → slice_get cs n ≡ Some c → ClosuresFit p s cs → ClosureFits p s c
+closure_fits p s [] n c e h = cc
+closure_fits p s (d ∷ cs) zero c e h = let same : d ≡ c = cc in subst (λ x. ClosureFits p s x) same h.0
+closure_fits p s (d ∷ cs) (suc n) c e h = closure_fits p s cs n c e h.1
+
+closure_added : (p : Program) (s : Store) (cs : List Closure) (c : Closure) → ClosuresFit p s cs → ClosureFits p s c → ClosuresFit p s (cs ++ c ∷ [])
+closure_added p s [] c h g = (g, tt)
+closure_added p s (d ∷ cs) c h g = (h.0, closure_added p s cs c h.1 g)
+
+closures_made : (p : Program) (s : Store) (cs cs' : List Closure) → SameOrOneAgain cs cs' → ClosuresFit p s cs → ClosuresFit p s cs'
+closures_made p s cs cs' (inl e) h = subst (λ xs. ClosuresFit p s xs) (sym e) h
+closures_made p s cs cs' (inr a) h = subst (λ xs. ClosuresFit p s xs) (sym a.added) (closure_added p s cs a.closure h (closure_fits p s cs a.place a.closure a.is h))
+
+made_rest : (p : Program) (acts : List (Act FlatBody)) (st : State) (s : Store) → Here p acts st → Rest p acts st → Made st.store s → Rest p acts (record st { store = s })
+made_rest p acts st s h r e =
+    (closures_made p s st.store.closures s.closures e.closures (closures_later p st.store s e.grown.classes st.store.closures h.0.3 r.0), (acts_later p st.store s e.grown.classes acts h.1 r.1.0, r.1.1))
 
 module _ (p : Program) where
   -- ---- charges
@@ -284,7 +301,7 @@ module _ (p : Program) (known : KnowsLiterals p) (knows : KnowsClasses p) where
     perform_fits : (a : Action) (env : Env) (acts : List (Act FlatBody)) (st : State) → Here p acts st → ActionHas st.store a → Rest p acts st → ActionFits p st.store a → MachFits p (perform_act F p a env acts st)
     perform_fits (Gives v) env acts st h g r f = r
     perform_fits (Changes s v) env acts st h g r f = grown_rest p acts st s h r g.0
-    perform_fits (Makes cells s v) env acts st h g r f = used_fits p cells st _ _ r (λ c. grown_rest p acts (record st { cells = c }) s h r g.0)
+    perform_fits (Makes cells s v) env acts st h g r f = used_fits p cells st _ _ r (λ c. made_rest p acts (record st { cells = c }) s h r g.0)
     perform_fits (Writes text v) env acts st h g r f = r
     perform_fits (Fails trouble) env acts st h g r f = (r, tt)
     perform_fits (DividesByZero dividend) env acts st h g r f = (r, tt)

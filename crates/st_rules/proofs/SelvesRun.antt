@@ -314,7 +314,7 @@ module _ (p : Program) (known : KnowsLiterals p) (knows : KnowsClasses p) where
   -- ---- at each moment
 
   module _ (ok : Compilable p) where
-    abbrev at : ℕ → Top FlatBody
+    abbrev pub at : ℕ → Top FlatBody
     at n = top_iter F p n (opened_run F p)
 
     step_last : (n : ℕ) (t : Top FlatBody) → top_iter F p (suc n) t ≡ top_step F p (top_iter F p n t)
@@ -325,7 +325,7 @@ module _ (p : Program) (known : KnowsLiterals p) (knows : KnowsClasses p) where
     unfolding first_state
     first_closures = tt
 
-    both : (n : ℕ) → TopKeeps p known (at n) × TopFits (at n)
+    pub both : (n : ℕ) → TopKeeps p known (at n) × TopFits (at n)
     both zero = (opened_keeps p known p.initializers (first_state p) (first_has p known) known.selves, opened_fits p.initializers (first_state p) (first_has p known) known.selves first_closures knows.selves)
     both (suc n) =
         let b = both n in

@@ -5,13 +5,14 @@ use Rattle.object_heap.specs.declared.value.Value.{Value}
 use Rattle.object_heap.specs.declared.value.Value.TheVariants.{Nil, True, False, Integer, Character, Symbol, Class, Meta, Transcript, Object}
 use Rattle.object_heap.specs.declared.value.Closure.{Closure}
 use Rattle.object_heap.specs.declared.trouble.Trouble.TheVariants.{WrongNumberOfArguments, CollectionExpected}
-use Rattle.object_heap.specs.Store.{Store, object_at}
+use Rattle.object_heap.specs.Store.{Store, Object as HeapObject, closure_at, object_at}
 use Rattle.st_code.specs.Program.{Program, MethodRow, Side, OfInstance, OfClass, OfMeta, same_side, body_at, name_at}
 use Rattle.st_code.specs.BuiltIns.{array_class, row_at}
-use Rattle.st_code.specs.Messages.{Row, Objects, Classes, Booleans, Numbers, Characters, Transcripts, Strings, Sequences, Collections, Blocks, Exceptions, Loops, Slots, BlockMessage}
+use Rattle.st_code.specs.Messages.{Row, Objects, Classes, Booleans, Numbers, Characters, Transcripts, Strings, Sequences, Collections, Blocks, Exceptions, Loops, Slots, BlockMessage, ObjectMessage}
 use Rattle.st_code.specs.Lookup.{Level, level, level_of, walk, class_level, Found, UserMethod, BuiltIn, is_method, method_at, found_at, found_in, lookup, super_lookup}
 use Rattle.st_collections.specs.Actions.{Action, Gives, Changes, Makes, Writes, Fails, DividesByZero, PassesIntegers, Begins, Activates, Sends, Misses, Enters, Guards, Ensures, Curtails, Iterates, Raises, RaisesNew, Controls, Terminates, first}
 use Rattle.st_collections.specs.Kinds.{is_a, slots_of}
+use Rattle.st_collections.specs.ObjectRows.{copied, object_action}
 use Rattle.st_rules.specs.Sends.{row_action, send_action, super_action}
 use Rattle.st_rules.specs.ExceptionRows.{closure_of, value_with, block_at, block_action}
 use Rattle.st_rules.specs.Rules.{closure_for}
@@ -191,9 +192,19 @@ module _ (p : Program) (known : KnowsClasses p) (s : Store) (cs : ClosuresFit p 
   blocks_by m r None args g = tt
   blocks_by m r (Some c) args g = block_fits m r c args g
 
+  copied_fits : (o : HeapObject) (c : Option Closure) → ActionFits p s (copied s o c)
+  copied_fits o None = tt
+  copied_fits o (Some c) = tt
+
+  copy_fits : (r : Value) (args : List Value) → ActionFits p s (object_action p s ObjectMessage.Copy r args)
+  unfolding object_action
+  copy_fits (Object n) args = copied_fits (object_at n s) (closure_at n s)
+  copy_fits r args = tt
+
   rows_fit : (row : Row) (r : Value) (args : List Value) → ActionFits p s (row_action p s row r args)
   unfolding row_action block_action
-  rows_fit (Objects m) r args = row_fits _ (object_free p s s.closures s.scopes m r args)
+  rows_fit (Objects ObjectMessage.Copy) r args = copy_fits r args
+  rows_fit (Objects m) r args = row_fits _ (object_free p s s.closures s.scopes m r args tt)
   rows_fit (Classes m) r args = row_fits _ (class_free p s s.closures s.scopes m r args)
   rows_fit (Booleans m) r args = row_fits _ (boolean_free p s s.closures s.scopes m r args)
   rows_fit (Numbers m) r args = row_fits _ (number_free p s s.closures s.scopes m r args)

@@ -17,7 +17,7 @@ use Rattle.st_rules.proofs.SoFar.{flat_told}
 
 -- ---- an instruction of a code
 
-in_list : (P : Instruction → Type 0) (is : List Instruction) (n : ℕ) (i : Instruction) → AllIn P is → slice_get is n ≡ Some i → P i
+pub in_list : (P : Instruction → Type 0) (is : List Instruction) (n : ℕ) (i : Instruction) → AllIn P is → slice_get is n ≡ Some i → P i
 in_list P [] n i h e = let none : ⊥ = grind (arith, e) in absurd none
 in_list P (j ∷ is) zero i h e = subst P (same j i e) h.0
   where
@@ -38,7 +38,7 @@ fetched_is P cs x i h e = in_list P (get_or cs x.code no_code).instructions x.po
 
 module _ (p : Program) (known : KnowsShared p) where
   -- there are as many
-  abbrev AsMany : Text → List Value → Type 0
+  abbrev pub AsMany : Text → List Value → Type 0
   AsMany t vs = length vs ≡ p.variables
 
   set_size : (vs : List Value) (i : ℕ) (v : Value) → length (slice_set vs i v) ≡ length vs
@@ -53,7 +53,7 @@ module _ (p : Program) (known : KnowsShared p) where
   unfolding first_state
   first_many = length-replicate p.variables _
 
-  many : (n : ℕ) → TopTold AsMany (top_iter (flat_of p) p n (opened_run (flat_of p) p))
+  pub many : (n : ℕ) → TopTold AsMany (top_iter (flat_of p) p n (opened_run (flat_of p) p))
   many n =
       iter_told (flat_of p) p AsMany (λ t u vs h. h) other (flat_told p AsMany other) n (opened_run (flat_of p) p)
       (opened_told (flat_of p) p AsMany (λ t u vs h. h) other (flat_told p AsMany other) p.initializers (first_state p) first_many)

@@ -1,16 +1,17 @@
 -- Values that are no objects or one of the first so many: in lists, objects and stores.
-use Rattle.std.proofs.Common.{◌≡◌, ℕ, zero, suc, ◌+◌, ◌<◌, ◌≤◌, length, get_or, take, drop, reverse, replicate, slice_set, List, [], ◌∷◌, ◌++◌, Option, Some, None, Bool, true, false, refl, sym, ap, ◌∙◌, subst, arith}
+use Rattle.std.proofs.Common.{◌≡◌, ℕ, zero, suc, ◌+◌, ◌<◌, ◌≤◌, inl, inr, length, get_or, take, drop, reverse, replicate, slice_get, slice_set, List, [], ◌∷◌, ◌++◌, Option, Some, None, Bool, true, false, refl, sym, ap, ◌∙◌, subst, arith}
 use Rattle.std.proofs.lemmas.List.{length-append, reverse-append, get_or_append_left}
 use Rattle.object_heap.specs.declared.value.Value.{Value}
 use Rattle.object_heap.specs.declared.value.Value.TheVariants.{Nil, True, False, Integer, Character, Symbol, Class, Meta, Transcript, Object}
 use Rattle.object_heap.specs.declared.value.Closure.{Closure}
-use Rattle.object_heap.specs.Store.{Store, Scope, Object as HeapObject, no_object, object_at, object_set, with_slot, with_byte}
+use Rattle.std.specs.Option.{option_and_then}
+use Rattle.object_heap.specs.Store.{Store, Scope, Object as HeapObject, closure_at, no_object, object_at, object_set, with_slot, with_byte}
 use Rattle.st_collections.specs.Actions.{LoopState, next_object, with_new, first, second, third, boolean}
 use Rattle.st_rules.specs.State.{Entry, Env, Home, Protected, Retry, RetryWith, Resume, Resignal, Terminate, Outcome, Answer, Go, Stop, Turn}
 use Rattle.st_rules.specs.Ends.{Search, Purpose, ForSignal, ForPass, ForOuter, ForNested, Wait, ToResume, ToOuter}
 use Rattle.st_rules.specs.Machine.{Act, BodyAct, Leaving, ProtectAct, EnsureOn, CurtailOn, ActionOff, SignalAct, HandlerRun, OuterAct, ResumeWait, HandlesWait, LoopAct}
 use Rattle.st_rules.specs.Flat.{FlatBody}
-use Rattle.st_rules.specs.Objects.{Has, AllHave, ObjectsHave, ScopesHave, ClosureHas, ClosuresHave, EntryHas, EnvHas, EntryOrNone, TurnHas, OutcomeHas, PurposeHas, SearchHas, WaitHas, LoopHas, BodyHas, ActHas, ActsHave, Grown}
+use Rattle.st_rules.specs.Objects.{Has, AllHave, ObjectsHave, ScopesHave, ClosureHas, ClosuresHave, EntryHas, EnvHas, EntryOrNone, TurnHas, OutcomeHas, PurposeHas, SearchHas, WaitHas, LoopHas, BodyHas, ActHas, ActsHave, Grown, Made, OneAgain, SameOrOneAgain}
 
 -- ---- with more objects
 
@@ -179,7 +180,7 @@ set_size (q ∷ os) zero o = refl
 set_size (q ∷ os) (suc n) o = ap suc (set_size os n o)
 
 -- the class of each object, where one is set of the class that was there
-set_class : (os : List HeapObject) (n m : ℕ) (o : HeapObject) → o.class ≡ (get_or os n no_object).class → (get_or (slice_set os n o) m no_object).class ≡ (get_or os m no_object).class
+pub set_class : (os : List HeapObject) (n m : ℕ) (o : HeapObject) → o.class ≡ (get_or os n no_object).class → (get_or (slice_set os n o) m no_object).class ≡ (get_or os m no_object).class
 set_class [] n m o c = refl
 set_class (q ∷ os) zero zero o c = c
 set_class (q ∷ os) zero (suc m) o c = refl
@@ -196,6 +197,30 @@ grown_itself s h = record { closures = refl; scopes = refl; more = omega arith; 
 
 pub grown_on : (s t u : Store) → Grown s t → Grown t u → Grown s u
 grown_on s t u a b = record { closures = b.closures ∙ a.closures; scopes = b.scopes ∙ a.scopes; more = omega (arith, a.more, b.more); classes = λ n l. b.classes n (omega (arith, l, a.more)) ∙ a.classes n l; objects = b.objects }
+
+pub made_plain : (s t : Store) → Grown s t → Made s t
+made_plain s t g = record { grown = record { closures = refl; scopes = g.scopes; more = g.more; classes = g.classes; objects = g.objects }; closures = inl g.closures }
+
+-- a closure that was copied
+again_at : (cs : List Closure) (o : Option ℕ) (c : Closure) → option_and_then (λ k. slice_get cs k) o ≡ Some c → OneAgain cs (cs ++ c ∷ [])
+again_at cs None c e = cc
+again_at cs (Some k) c e = record { place = k; closure = c; is = e; added = refl }
+
+pub one_again : (s : Store) (n : ℕ) (c : Closure) → closure_at n s ≡ Some c → OneAgain s.closures (s.closures ++ c ∷ [])
+one_again s n c e = again_at s.closures (object_at n s).closure c e
+
+closure_there : (k : ℕ) (cs : List Closure) (n : ℕ) (c : Closure) → slice_get cs n ≡ Some c → ClosuresHave k cs → ClosureHas k c
+closure_there k [] n c e h = cc
+closure_there k (d ∷ cs) zero c e h = let same : d ≡ c = cc in subst (λ x. ClosureHas k x) same h.0
+closure_there k (d ∷ cs) (suc n) c e h = closure_there k cs n c e h.1
+
+closure_added : (k : ℕ) (cs : List Closure) (c : Closure) → ClosuresHave k cs → ClosureHas k c → ClosuresHave k (cs ++ c ∷ [])
+closure_added k [] c h g = (g, tt)
+closure_added k (d ∷ cs) c h g = (h.0, closure_added k cs c h.1 g)
+
+pub closures_made : (k : ℕ) (cs cs' : List Closure) → SameOrOneAgain cs cs' → ClosuresHave k cs → ClosuresHave k cs'
+closures_made k cs cs' (inl e) h = subst (λ xs. ClosuresHave k xs) (sym e) h
+closures_made k cs cs' (inr a) h = subst (λ xs. ClosuresHave k xs) (sym a.added) (closure_added k cs a.closure h (closure_there k cs a.place a.closure a.is h))
 
 module _ (s : Store) (h : ObjectsHave (length s.objects) s.objects) where
   -- one more object, of these slots

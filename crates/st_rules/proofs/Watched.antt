@@ -295,7 +295,7 @@ module _ (p : Program) (n m : Next) (aims : Agree n m) where
   unfolding with_arguments with_message with_new
   perform_same (Gives v) env s st h e k = (refl, (tt, h, omega arith))
   perform_same (Changes t v) env s st h e k = (refl, (tt, subst (λ cs. Ok s st.next cs) (sym k) h, omega arith))
-  perform_same (Makes cells t v) env s st h e k = used_same p st.next s cells st _ _ _ (tt, h, omega arith) (λ c. (refl, (tt, subst (λ cs. Ok s st.next cs) (sym k) h, omega arith)))
+  perform_same (Makes cells t v) env s st h e k = used_same p st.next s cells st _ _ _ (tt, h, omega arith) (λ c. (refl, (tt, record { sound = h.sound; under = h.under; homes = k }, omega arith)))
   perform_same (Writes text v) env s st h e k = (refl, (tt, h, omega arith))
   perform_same (Fails trouble) env s st h e k = aims.use' _ s st h e
   perform_same (DividesByZero dividend) env s st h e k = aims.use' _ s st h e

@@ -64,14 +64,26 @@ of_number s m (Some x) r args = numeric_action s (dividend_of m r) r (first args
 unfoldable pub arithmetic_action : Store → Arithmetic → Value → List Value → Action
 arithmetic_action s m r args = of_number s m (as_number s r) r args
 
+-- the last digits, so many at most, with capital letters
+unfoldable pub last_digits : (most radix n : ℕ) → List ℕ → List ℕ
+last_digits most radix n behind = digits_onto most radix true n behind
+
 abbrev pub radix_text : ℕ → ℤ → List ℕ
-radix_text radix (pos n) = digits_onto 128 radix true n []
-radix_text radix (negsuc n) = 45 ∷ digits_onto 128 radix true (n + 1) []
+radix_text radix (pos n) = last_digits 128 radix n []
+radix_text radix (negsuc n) = 45 ∷ last_digits 128 radix (n + 1) []
 
 -- an Integer by its digits, for a radix from 2 to 36
 abbrev pub in_radix : Store → ℤ → ℤ → Action
 in_radix s r (pos radix) = if nat_le 2 radix && nat_le radix 36 then makes_string (radix_text radix r) s else Fails BadRadix
 in_radix s r (negsuc radix) = Fails BadRadix
+
+-- `printString:`, of an Integer
+abbrev pub in_radix_action : Store → (receiver radix : Value) → Action
+in_radix_action s r radix = with_integer radix (λ n. in_radix s (integer_of r) n)
+
+-- `numerator:denominator:`, which divides
+abbrev pub fraction_action : Store → (numerator denominator : Value) → Action
+fraction_action s over under = with_integer over (λ n. with_integer under (λ d. arithmetic_action s Arithmetic.Divide (Integer n) (Integer d ∷ [])))
 
 -- what a message asks for: arithmetic, or what takes more than numbers
 pub data Asked : Type 0 where
@@ -119,10 +131,10 @@ asked NumberMessage.FromNumerator = Asked.FromNumerator
 abbrev pub number_at : Program → Store → Asked → Value → List Value → Action
 number_at p s (Asked.Computes m) r args = arithmetic_action s m r args
 number_at p s Asked.AsString r args = makes_string (print_text p s r) s
-number_at p s Asked.PrintRadix r args = with_integer (first args) (λ radix. in_radix s (integer_of r) radix)
+number_at p s Asked.PrintRadix r args = in_radix_action s r (first args)
 number_at p s Asked.To r args = to_action s r (first args)
 number_at p s Asked.ToBy r args = to_by_action s r (first args) (second args)
-number_at p s Asked.FromNumerator r args = with_integer (first args) (λ n. with_integer (second args) (λ d. arithmetic_action s Arithmetic.Divide (Integer n) (Integer d ∷ [])))
+number_at p s Asked.FromNumerator r args = fraction_action s (first args) (second args)
 
 unfoldable pub number_action : Program → Store → NumberMessage → Value → List Value → Action
 number_action p s m r args = number_at p s (asked m) r args

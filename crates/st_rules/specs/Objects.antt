@@ -1,5 +1,5 @@
 -- What is claimed of object numbers: each that a run of the flat machine has in hand names an object. And of the program's own variables: each that an instruction names is there.
-use Rattle.std.specs.Prelude.{◌≡◌, ℕ, ◌+◌, ◌<◌, ◌≤◌, List, [], ◌∷◌, length, Option, Some, None}
+use Rattle.std.specs.Prelude.{◌≡◌, ◌⊎◌, ℕ, ◌+◌, ◌<◌, ◌≤◌, List, [], ◌∷◌, ◌++◌, length, slice_get, Option, Some, None}
 use Rattle.object_heap.specs.declared.value.Value.{Value}
 use Rattle.object_heap.specs.declared.value.Value.TheVariants.{Object}
 use Rattle.object_heap.specs.declared.value.Closure.{Closure}
@@ -129,6 +129,25 @@ pub record Grown (s s' : Store) : Type 0 where
   pub classes : (n : ℕ) → n < length s.objects → (object_at n s').class ≡ (object_at n s).class
   pub objects : ObjectsHave (length s'.objects) s'.objects
 
+-- the store with other closures
+abbrev pub with_closures : List Closure → Store → Store
+with_closures cs s = record { objects = s.objects; closures = cs; scopes = s.scopes }
+
+-- these closures, and one of them once more
+pub record OneAgain (cs cs' : List Closure) : Type 0 where
+  pub place : ℕ
+  pub closure : Closure
+  pub is : slice_get cs place ≡ Some closure
+  pub added : cs' ≡ cs ++ closure ∷ []
+
+abbrev pub SameOrOneAgain : List Closure → List Closure → Type 0
+SameOrOneAgain cs cs' = (cs' ≡ cs) ⊎ OneAgain cs cs'
+
+-- the same as grown, but for the closure of a block that was copied
+pub record Made (s s' : Store) : Type 0 where
+  pub grown : Grown s (with_closures s.closures s')
+  pub closures : SameOrOneAgain s.closures s'.closures
+
 abbrev pub VisitHas : Store → Visit → Type 0
 VisitHas s (Applies l v args) = LoopHas (length s.objects) l × Has (length s.objects) v × AllHave (length s.objects) args
 VisitHas s (Compares l r v) = LoopHas (length s.objects) l × Has (length s.objects) r × Has (length s.objects) v
@@ -139,7 +158,7 @@ VisitHas s (Charges cells s' v) = Grown s s' × VisitHas s' v
 abbrev pub ActionHas : Store → Action → Type 0
 ActionHas s (Gives v) = Has (length s.objects) v
 ActionHas s (Changes s' v) = Grown s s' × Has (length s'.objects) v
-ActionHas s (Makes cells s' v) = Grown s s' × Has (length s'.objects) v
+ActionHas s (Makes cells s' v) = Made s s' × Has (length s'.objects) v
 ActionHas s (Writes text v) = Has (length s.objects) v
 ActionHas s (Fails trouble) = Unit {0}
 ActionHas s (DividesByZero v) = Has (length s.objects) v

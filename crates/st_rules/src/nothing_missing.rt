@@ -11,8 +11,8 @@ ghost use Rattle.st_rules.specs.Selves.{ProgramsKnowClasses, SelvesFit};
 /// object of each number in hand, be it an operand, a variable, a slot, or kept by what stands. Self
 /// is an instance of the class that a body is written in, or of one under it, in each body that runs
 /// or stands. Each program that the units of a file are has what this asks for: the literals that it
-/// names, its classes in order, and the variables that it names unless it has none at all. Not
-/// claimed: how many slots self has, and that its class instance variables are there.
+/// names, its classes in order, and the variables that it names unless it has none at all. Of slots
+/// and class instance variables of self st_variables says the same.
 pub fn on_compiled_code_nothing_is_missing()
     ensures instructions { InstructionsHave }
     ensures values { ValuesHave }

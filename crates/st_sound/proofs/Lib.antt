@@ -7,3 +7,7 @@ pub mod TableRows
 pub mod SoundSends
 pub mod SoundMachine
 pub mod SoundRun
+pub mod WrittenTrees
+pub mod WrittenMade
+pub mod WrittenNames
+pub mod WrittenUnits

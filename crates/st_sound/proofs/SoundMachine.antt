@@ -1,5 +1,5 @@
 -- Stores stay sound, and loops that stand are as their messages take them: a law for each small step of the flat machine.
-use Rattle.std.proofs.Common.{◌≡◌, ℕ, ◌+◌, max, length, List, [], ◌∷◌, Option, Some, None, Bool, true, false, refl, sym, subst, nat_lt, nat_le, if◌then◌else◌}
+use Rattle.std.proofs.Common.{◌≡◌, ℕ, ◌+◌, max, length, List, [], ◌∷◌, Option, Some, None, Bool, true, false, refl, sym, subst, nat_lt, nat_le, if◌then◌else◌, ◌++◌, zero, suc, inl, inr, slice_get}
 use Rattle.object_heap.specs.declared.value.Value.{Value}
 use Rattle.object_heap.specs.declared.value.Value.TheVariants.{Symbol, Object}
 use Rattle.object_heap.specs.declared.value.Closure.{Closure}
@@ -14,12 +14,12 @@ use Rattle.st_rules.specs.Ends.{charged, ended, with_arguments, with_message, Op
 use Rattle.st_rules.specs.Flat.{FlatBody, flat_number}
 use Rattle.st_rules.specs.Flattened.{flat_of}
 use Rattle.st_rules.specs.Machine.{Act, BodyAct, Leaving, ProtectAct, EnsureOn, CurtailOn, ActionOff, SignalAct, HandlerRun, OuterAct, ResumeWait, HandlesWait, LoopAct, Mach, Run, Settle, Bodies, marks, open_act, raise_act, raise_new_act, tried_act, judged_act, search_act, turn_act, asked_act, resignal_act, resignal_as_act, control_by_act, control_without_act, control_in_act, control_act, visit_act, perform_act, begin, protect_verdict, signal_verdict, give, unwind, step}
-use Rattle.st_rules.specs.Objects.{ActionHas, Grown, UseHas, VisitHas}
+use Rattle.st_rules.specs.Objects.{ActionHas, Grown, Made, SameOrOneAgain, UseHas, VisitHas}
 use Rattle.st_rules.specs.Rules.{Use, Apply, Activate, Enter, SendTo, SuperTo, Perform, Raise, RaiseNew, SignalPoint, Resignaled, SearchIn, TurnBy, Ask, Protect, Finish, VisitBy, RunBody, closure_for, apply_by, handler_by, exception_slots, with_exception, exception_cells}
 use Rattle.st_rules.specs.Selves.{IsOf, KnowsClasses}
 use Rattle.st_rules.specs.State.{State, Entry, Env, Target, Outcome, Answer, Go, Stop, Turn, Mark, FoundTurn, NoTurn, TurnAt, turn_of, with_store, is_live, step_made, stood, used, scope_cells}
 use Rattle.st_sound.specs.KnownCollections.{KnowsCollections}
-use Rattle.st_sound.specs.SoundActions.{VisitSound, ActionSound}
+use Rattle.st_sound.specs.SoundActions.{VisitSound, ActionSound, ClosureWritten}
 use Rattle.st_sound.specs.SoundRun.{ClosuresWritten, UseSound, ActSound, ActsSound, StateSound, MachSound}
 use Rattle.st_sound.specs.SoundStore.{SoundStore, is_free}
 use Rattle.st_sound.proofs.Later.{Later, new_later, loop_later}
@@ -53,6 +53,23 @@ module _ (p : Program) where
 
   rest_grown : (acts : List (Act FlatBody)) (st : State) (s : Store) → Grown st.store s → SoundStore s → Rest acts st → Rest acts (record st { store = s })
   rest_grown acts st s e h r = rest_later acts st s (grown_later st.store s e) h e.closures r
+
+  closure_written : (cs : List Closure) (n : ℕ) (c : Closure) → slice_get cs n ≡ Some c → ClosuresWritten p cs → ClosureWritten p c
+  closure_written [] n c e h = cc
+  closure_written (d ∷ cs) zero c e h = let same : d ≡ c = cc in subst (λ x. ClosureWritten p x) same h.0
+  closure_written (d ∷ cs) (suc n) c e h = closure_written cs n c e h.1
+
+  closure_added : (cs : List Closure) (c : Closure) → ClosuresWritten p cs → ClosureWritten p c → ClosuresWritten p (cs ++ c ∷ [])
+  closure_added [] c h g = (g, tt)
+  closure_added (d ∷ cs) c h g = (h.0, closure_added cs c h.1 g)
+
+  closures_made : (cs cs' : List Closure) → SameOrOneAgain cs cs' → ClosuresWritten p cs → ClosuresWritten p cs'
+  closures_made cs cs' (inl e) h = subst (λ xs. ClosuresWritten p xs) (sym e) h
+  closures_made cs cs' (inr a) h = subst (λ xs. ClosuresWritten p xs) (sym a.added) (closure_added cs a.closure h (closure_written cs a.place a.closure a.is h))
+
+  -- the same, where a block may have been copied
+  rest_made : (acts : List (Act FlatBody)) (st : State) (s : Store) → Made st.store s → SoundStore s → Rest acts st → Rest acts (record st { store = s })
+  rest_made acts st s e h r = ((h, closures_made st.store.closures s.closures e.closures r.0.1), acts_later st.store s (record { more = e.grown.more; classes = e.grown.classes }) h acts r.1)
 
   same_closures : (class : ℕ) (slots : List Value) (s : Store) → (with_new class slots [] s).closures ≡ s.closures
   unfolding with_new
@@ -210,7 +227,7 @@ module _ (p : Program) (classes : KnowsClasses p) (knows : KnowsCollections p) w
     perform_sound : (a : Action) (env : Env) (acts : List (Act FlatBody)) (st : State) → ActionHas st.store a → R acts st → ActionSound p st.store a → MachSound p (perform_act F p a env acts st)
     perform_sound (Gives v) env acts st g r f = r
     perform_sound (Changes s v) env acts st g r f = rest_grown p acts st s g.0 f r
-    perform_sound (Makes cells s v) env acts st g r f = used_sound p cells st _ _ r (λ c. rest_grown p acts (record st { cells = c }) s g.0 f r)
+    perform_sound (Makes cells s v) env acts st g r f = used_sound p cells st _ _ r (λ c. rest_made p acts (record st { cells = c }) s g.0 f r)
     perform_sound (Writes text v) env acts st g r f = r
     perform_sound (Fails trouble) env acts st g r f = (r.0, refl, r.1)
     perform_sound (DividesByZero dividend) env acts st g r f = (r.0, refl, r.1)

@@ -4,15 +4,16 @@ use Rattle.object_heap.specs.declared.value.Value.{Value}
 use Rattle.object_heap.specs.declared.value.Value.TheVariants.{Nil, True, False, Integer, Character, Symbol, Class, Object}
 use Rattle.object_heap.specs.declared.trouble.Trouble.{Trouble}
 use Rattle.object_heap.specs.declared.trouble.Trouble.TheVariants as trouble
-use Rattle.object_heap.specs.Store.{Store, Object as HeapObject, object_at, object_added, with_slot, with_byte}
+use Rattle.object_heap.specs.declared.value.Closure.{Closure}
+use Rattle.object_heap.specs.Store.{Store, Object as HeapObject, closure_at, object_at, object_added, with_slot, with_byte}
 use Rattle.st_code.specs.Texts.{Text, arity, same_text, text_less, to_lower}
 use Rattle.st_code.specs.Program.{Program, Indexed, NoIndexes, ByObject, ByByte, class_at, name_at}
 use Rattle.st_code.specs.BuiltIns.{string_class, symbol_class, array_class, ordered_collection_class, association_class, byte_array_class, dictionary_class, interval_class}
 use Rattle.st_code.specs.Lookup.{level_of, lookup}
 use Rattle.st_code.specs.Messages.{ObjectMessage, ClassMessage, CharacterMessage, StringMessage, SequenceMessage, BooleanMessage, CollectionMessage, TranscriptMessage}
-use Rattle.st_collections.specs.Actions.{Action, Gives, Changes, Makes, Writes, Fails, Begins, Sends, first, second, boolean, next_object, makes_slots, makes_bytes, makes_string, makes_blank}
+use Rattle.st_collections.specs.Actions.{Action, Gives, Changes, Makes, Writes, Fails, Begins, Sends, first, second, boolean, makes_slots, makes_bytes, makes_string, makes_blank}
 use Rattle.st_collections.specs.Kinds.{is_true, is_a, bytes_of, slots_of, size_of, element, some_elements, elements, is_sequence, is_collection, species, natural_of}
-use Rattle.st_collections.specs.ObjectRows.{indexed, index_in, byte_value, byte_put, object_action, class_action, boolean_action}
+use Rattle.st_collections.specs.ObjectRows.{copied, indexed, index_in, byte_value, byte_put, object_action, class_action, boolean_action}
 use Rattle.st_collections.specs.TextRows.{with_character, from_code_point, with_text, new_string, string_at, or_empty, byte_of, character_action, string_action, transcript_action}
 use Rattle.st_collections.specs.SequenceRows.{makes_sequence, element_trouble, at_put, join, copy_between, copy_from_to, with_elements, without_element, firsts, seconds, written, is_index, ordered_at, changed, sequence_action, collection_action}
 use Rattle.st_sound.specs.Receivers.{takes_sequence, takes_collection}
@@ -91,12 +92,9 @@ module _ (p : Program) (s : Store) (h : SoundStore s) where
 
   -- ---- every object
 
-  copied_sound : (c : Option ℕ) (o : HeapObject) (n k : ℕ) → SoundStore (object_added (record { class = o.class; slots = o.slots; bytes = o.bytes; capacity = length o.slots; read_only = false; closure = None }) s) → Sounds (elim c [
-    | None ↦ Makes n (object_added (record { class = o.class; slots = o.slots; bytes = o.bytes; capacity = length o.slots; read_only = false; closure = None }) s) (next_object s)
-    | Some number ↦ Makes k (object_added (record { class = o.class; slots = []; bytes = []; capacity = 0; read_only = false; closure = Some number }) s) (next_object s)
-  ])
-  copied_sound None o n k g = record { sound = g }
-  copied_sound (Some number) o n k g = record { sound = sound_added s _ h (new_block o.class (Some number)) }
+  copied_sound : (o : HeapObject) (c : Option Closure) → SoundStore (object_added (record { class = o.class; slots = o.slots; bytes = o.bytes; capacity = length o.slots; read_only = false; closure = None }) s) → Sounds (copied s o c)
+  copied_sound o None g = record { sound = g }
+  copied_sound o (Some closure) g = let added = sound_added s _ h (new_block o.class (Some (length s.closures))) in record { sound = record { each = added.each } }
 
   display_by : (o : Option Text) (selector : ℕ) (r : Value) → Sounds (elim o [ Some bytes ↦ makes_string bytes s | None ↦ Sends selector r [] ])
   display_by None selector r = record { sound = tt }
@@ -169,7 +167,7 @@ module _ (p : Program) (s : Store) (h : SoundStore s) where
   objects_sound d ObjectMessage.IsSymbol (Symbol name) args = record { sound = tt }
   objects_sound d ObjectMessage.IsSymbol r args = record { sound = tt }
   objects_sound d ObjectMessage.RespondsTo r args = responds r (first args)
-  objects_sound d ObjectMessage.Copy (Object n) args = let o = object_at n s in copied_sound o.closure o _ _ (sound_added s _ h (new_like o (h.each n)))
+  objects_sound d ObjectMessage.Copy (Object n) args = let o = object_at n s in copied_sound o (closure_at n s) (sound_added s _ h (new_like o (h.each n)))
   objects_sound d ObjectMessage.Copy r args = record { sound = tt }
   objects_sound d ObjectMessage.PrintString r args = string_made _
   objects_sound d ObjectMessage.DisplayString (Character byte) args = string_made (byte ∷ [])

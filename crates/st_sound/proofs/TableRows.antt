@@ -8,11 +8,13 @@ use Rattle.st_code.specs.BuiltIns.{object_class, string_class, symbol_class, arr
 use Rattle.st_code.specs.Lookup.{Level, level, level_of, superclasses, holds, walk, Found, UserMethod, BuiltIn, method_at, found_at, found_in, lookup, class_level, super_lookup}
 use Rattle.st_code.specs.Messages.{Row, Objects, Classes, Booleans, Numbers, Characters, Transcripts, Strings, Sequences, Collections, Blocks, Exceptions, Loops, Slots, SequenceMessage, CollectionMessage, LoopMessage}
 use Rattle.st_code.specs.Program.{Program, Side, OfInstance, OfClass, OfMeta, same_side, name_at}
+use Rattle.st_collections.specs.Ordered.{IsOrdered}
 use Rattle.st_rules.specs.Selves.{OnWalk, IsOf, KnowsClasses}
 use Rattle.st_sound.specs.KnownCollections.{KnowsCollections}
-use Rattle.st_sound.specs.Receivers.{is_listed, takes}
-use Rattle.st_sound.specs.RowsFit.{RowsFit, SuperRowsFit}
-use Rattle.st_sound.specs.SoundStore.{grows, is_free}
+use Rattle.st_sound.specs.Receivers.{changes, is_listed, takes}
+use Rattle.st_sound.specs.RowsFit.{RowReady, RowsFit, SuperRowsFit, SendsAreReady, SuperSendsAreReady}
+use Rattle.st_sound.specs.SoundStore.{SoundStore, grows, is_free}
+use Rattle.st_sound.proofs.Meets.{ordered_open, receivers_stand}
 
 -- ---- where the table has a row
 
@@ -365,3 +367,30 @@ rows_fit p knows from selector row e = row_fits p knows from selector row e
 
 pub super_rows_fit : SuperRowsFit
 super_rows_fit p classes knows s class r selector row g e = super_row_fits p knows classes s class r selector row g e
+
+-- ---- receivers in a sound store
+
+ready : (s : Store) → SoundStore s → (row : Row) (r : Value) → takes row (level_of s r).class ≡ true → RowReady s row r
+ready s h (Objects m) r e = tt
+ready s h (Classes m) r e = tt
+ready s h (Booleans m) r e = tt
+ready s h (Numbers m) r e = tt
+ready s h (Characters m) r e = tt
+ready s h (Transcripts m) r e = tt
+ready s h (Strings m) r e = tt
+ready s h (Sequences m) r e = tt
+ready s h (Collections m) r e = λ c. go (changes m) c e
+  where
+    go : (b : Bool) → b ≡ true → (not b || nat_eq (level_of s r).class ordered_collection_class) ≡ true → IsOrdered s r
+    go true c e = ordered_open s h r (eqb-true (level_of s r).class ordered_collection_class e)
+    go false c e = absurd (true≢false (sym c))
+ready s h (Blocks m) r e = tt
+ready s h (Exceptions m) r e = tt
+ready s h (Loops m) r e = receivers_stand s h m r e
+ready s h (Slots slot) r e = tt
+
+pub sends_ready : SendsAreReady
+sends_ready p knows s h r selector row e = ready s h row r (row_fits p knows (level_of s r) selector row e)
+
+pub super_sends_ready : SuperSendsAreReady
+super_sends_ready p classes knows s h class r selector row g e = ready s h row r (super_row_fits p knows classes s class r selector row g e)

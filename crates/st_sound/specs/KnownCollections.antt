@@ -1,12 +1,16 @@
 -- What is asked of a program so that its collections stay sound. Source: the classes of a file stand under Object, an exception class or each other, and only they have named slots.
-use Rattle.std.specs.Prelude.{◌≡◌, ℕ, ◌<◌, true, [], ◌∷◌, get_or}
+use Rattle.std.specs.Prelude.{◌≡◌, ℕ, ◌<◌, Bool, true, not, List, [], ◌∷◌, map, get_or, Option, Some, None}
 use Rattle.object_heap.specs.declared.value.Value.{Value}
 use Rattle.object_heap.specs.declared.value.Value.TheVariants.{Class}
 use Rattle.object_heap.specs.Store.{no_object}
 use Rattle.st_code.specs.declared.instruction.Instruction.{Instruction}
 use Rattle.st_code.specs.declared.instruction.Instruction.TheVariants.{MakeBlock, Store}
 use Rattle.st_code.specs.declared.instruction.Variable.TheVariants.{Instance}
-use Rattle.st_code.specs.BuiltIns.{object_class, collection_class, dictionary_class, interval_class, exception_set_class}
+use Rattle.st_code.specs.Definitions.{RunLimits, built_in_names, program_of}
+use Rattle.st_code.specs.Named.{NamedUnit, ClassUnit}
+use Rattle.st_code.specs.Resolved.{class_in}
+use Rattle.st_code.specs.Texts.{Text}
+use Rattle.st_code.specs.BuiltIns.{built_in_class_rows, object_class, collection_class, dictionary_class, interval_class, exception_set_class}
 use Rattle.st_code.specs.Compiled.{compile_of}
 use Rattle.st_code.specs.Lookup.{superclasses, holds}
 use Rattle.st_code.specs.Program.{Program, body_at, class_at}
@@ -33,3 +37,20 @@ pub record KnowsCollections (p : Program) : Type 0 where
   pub interval : superclasses p interval_class ≡ interval_class ∷ collection_class ∷ object_class ∷ []
   pub literals : (n : ℕ) → SoundObject (get_or p.literals n no_object)
   pub code : (code : ℕ) → AllIn (Written p code) (code_at (compile_of p) code).instructions
+
+-- ---- the programs that the units of a file are
+
+-- a built-in class of the file's superclass's name, if there is one, takes no elements
+abbrev pub may_extend : Option ℕ → Bool
+may_extend None = true
+may_extend (Some class) = not (grows class)
+
+-- no class stands under OrderedCollection, Set or Dictionary
+abbrev pub Extends : List NamedUnit → Type 0
+Extends [] = Unit {0}
+Extends (ClassUnit c ∷ units) = (may_extend (class_in 0 (map built_in_names built_in_class_rows) c.superclass) ≡ true) × Extends units
+Extends (u ∷ units) = Extends units
+
+-- then the program's collections stay sound, whatever its units are
+abbrev pub ProgramsKnowCollections : Type 0
+ProgramsKnowCollections = (names : List Text) (units : List NamedUnit) (limits : RunLimits) → Extends units → KnowsCollections (program_of names units limits)

@@ -1,5 +1,5 @@
 -- Which classes the receivers of a built-in message have, where that counts: what changes an OrderedCollection, a Set or a Dictionary is found by these alone, and what makes a sequence like its receiver by no Dictionary.
-use Rattle.std.specs.Prelude.{ℕ, Bool, true, not, ◌||◌, nat_eq}
+use Rattle.std.specs.Prelude.{ℕ, Bool, true, false, not, ◌||◌, nat_eq}
 use Rattle.st_code.specs.BuiltIns.{ordered_collection_class, set_class, dictionary_class}
 use Rattle.st_code.specs.Messages.{Row, Sequences, Collections, Exceptions, Loops, SequenceMessage, CollectionMessage, LoopMessage}
 use Rattle.st_sound.specs.SoundStore.{is_free}
@@ -15,15 +15,19 @@ takes_sequence SequenceMessage.Reverse class = not (nat_eq class dictionary_clas
 takes_sequence SequenceMessage.AtPut class = is_free class
 takes_sequence m class = true
 
+-- what changes an OrderedCollection
+abbrev pub changes : CollectionMessage → Bool
+changes CollectionMessage.Add = true
+changes CollectionMessage.AddFirst = true
+changes CollectionMessage.AddAll = true
+changes CollectionMessage.RemoveFirst = true
+changes CollectionMessage.RemoveLast = true
+changes CollectionMessage.AddBeforeIndex = true
+changes CollectionMessage.RemoveAtIndex = true
+changes m = false
+
 abbrev pub takes_collection : CollectionMessage → ℕ → Bool
-takes_collection CollectionMessage.Add class = nat_eq class ordered_collection_class
-takes_collection CollectionMessage.AddFirst class = nat_eq class ordered_collection_class
-takes_collection CollectionMessage.AddAll class = nat_eq class ordered_collection_class
-takes_collection CollectionMessage.RemoveFirst class = nat_eq class ordered_collection_class
-takes_collection CollectionMessage.RemoveLast class = nat_eq class ordered_collection_class
-takes_collection CollectionMessage.AddBeforeIndex class = nat_eq class ordered_collection_class
-takes_collection CollectionMessage.RemoveAtIndex class = nat_eq class ordered_collection_class
-takes_collection m class = true
+takes_collection m class = not (changes m) || nat_eq class ordered_collection_class
 
 abbrev pub takes_loop : LoopMessage → ℕ → Bool
 takes_loop LoopMessage.AddToSet class = nat_eq class set_class

@@ -2,7 +2,8 @@ use Rattle.std.proofs.Common.{◌≡◌, Some, None, sym, ◌∙◌}
 use Rattle.std.specs.Str.{bytes_eq}
 use Rattle.std.specs.List.{position}
 use Rattle.program_image.specs.Images.{image_names}
-use Rattle.signal_env.proofs.Own.{selector-there, number-there, found-some}
+use Rattle.program_image.proofs.There.{selector-there}
+use Rattle.signal_env.proofs.Own.{number-there, found-some}
 use Rattle.signal_env.proofs.lookups.selector_number.Goals as goal
 
 pub unreachable-requires : goal.unreachable-requires

@@ -9,7 +9,8 @@ use Rattle.st_compiler.proofs.loaded.parts_of.Goals as goal
 
 pub returns : goal.returns
 returns c =
-    loaded c.args.image.now c.in_ok-definitions.definitions.defining.draft.bodies (map seen_code c.in_ok-codes.codes) c.into_rows-initializers.result.1 (map seen_initializer c.into_rows-initializers.result.0)
+    loaded c.args.image.now c.in_ok-definitions.definitions.defining.draft.bodies (map seen_code c.in_ok-codes.codes) c.into_rows-initializers.result.1 (map seen_initializer c.into_rows-initializers.result.0) c.literals-literals.result
     c.in_ok-definitions.ensures.holds.bodies (c.in_ok-codes.ensures ∙ ap (λ (ds : List DraftBody). compiled_drafts ds 0 ds) c.bodies.ensures)
     (c.into_rows-initializers.ensures.unit_codes ∙ c.in_ok-definitions.ensures.numbers)
     (ap (λ (is : List Initializer). map seen_initializer is) c.into_rows-initializers.ensures.initializers ∙ c.in_ok-definitions.ensures.holds.initializers)
+    (c.literals-literals.ensures ∙ c.in_ok-definitions.ensures.holds.objects)

@@ -12,7 +12,7 @@ loop-place-preserved g c =
     let wrote = c.put_byte.ensures.written in
     record {
       written = put_more bytes c.args.object c.args.at c.loop-place.place m (g.H.Heap.meaning c.put_byte.new.self) here (rw (c.get_byte-byte.ensures, c.loop-place.invariant.stays) at wrote) ∙ c.loop-place.invariant.written;
-      stays = ap (λ (n : Memory). object_at c.args.from n.store) wrote ∙ (other_stays c.args.from c.args.object (c.args.at + c.loop-place.place) c.get_byte-byte.result m.store c.requires.other ∙ c.loop-place.invariant.stays);
+      stays = ap (λ (n : Memory). object_at c.args.from n.store) wrote ∙ (other_stays c.args.from c.args.object (c.args.at + c.loop-place.place) c.get_byte-byte.result m.store (c.requires.other (omega arith)) ∙ c.loop-place.invariant.stays);
       literals = c.put_byte.ensures.literals ∙ c.loop-place.invariant.literals;
     }
 

@@ -9,4 +9,4 @@ pub returns : goal.returns
 returns c =
     c.find.ensures ∙ c.self.invariant.firsts.same (key_at c.args.selector c.args.side c.args.class)
     ∙ ap (λ (us : List Unit). first_found (entries_with (image_names us) us) (key_at c.args.selector c.args.side c.args.class)) c.self.view_is
-    ∙ entry-found c.args.self.now c.args.selector c.args.side c.args.class c.requires
+    ∙ entry-found c.args.self.now c.args.selector c.args.side c.args.class

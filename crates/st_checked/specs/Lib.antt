@@ -1,0 +1,2 @@
+pub mod CheckedUnits
+pub mod CheckedVariables

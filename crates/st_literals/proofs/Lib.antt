@@ -1,0 +1,5 @@
+pub mod Gathering
+pub mod Numbering
+pub mod Counted
+pub mod Filling
+pub mod Making

@@ -1,8 +1,0 @@
-use Rattle.st_machine.proofs.Codes.{slots_in, slots_out}
-use Rattle.st_machine.proofs.loaded.class_slots.Goals as goal
-
-pub returns-then-class-class_count : goal.returns-then-class-class_count
-returns-then-class-class_count c = slots_in c.args.image.now c.args.class c.class.result.now (rw (← c.class_count.ensures) c.if-class-class_count.true) c.class.ensures
-
-pub returns : goal.returns
-returns c = slots_out c.args.image.now c.args.class (rw (← c.class_count.ensures) c.if-class-class_count.false)

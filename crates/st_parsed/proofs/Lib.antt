@@ -1,0 +1,3 @@
+pub mod SelectorForms
+pub mod GrammarFits
+pub mod ReadFits

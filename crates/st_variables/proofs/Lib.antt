@@ -1,0 +1,12 @@
+pub mod Wholes
+pub mod RowsKeep
+pub mod VisitsKeep
+pub mod NumbersKeep
+pub mod SendsKeep
+pub mod KeepsMachine
+pub mod KeepsRun
+pub mod VariablesStand
+pub mod KnownCode
+pub mod KnownBodies
+pub mod KnownClasses
+pub mod KnownPrograms
