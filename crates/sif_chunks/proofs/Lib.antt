@@ -5,6 +5,7 @@ pub mod WriterLemmas
 pub mod StepLemmas
 pub mod WindowLemmas
 pub mod Ahead
+pub mod Alone
 pub mod Moves
 pub mod Turned
 pub mod Outlooks

@@ -1,11 +1,13 @@
 // The reader of a file's elements.
 ghost use Rattle.std.specs.Prelude.{◌≡◌, ◌≢◌, ◌+◌, ◌<◌, ◌≤◌, ℕ, [], None, IfOk, IfSome, length, false};
+ghost use Rattle.std.specs.Io.KnownBytes.{append_known};
 ghost use Rattle.std.specs.Option.{option_map};
 ghost use Rattle.st_base.specs.Streams.{Rose};
 ghost use Rattle.sif_chunks.specs.Reading.{outlook, told, judged, Settled};
 ghost use Rattle.sif_chunks.specs.Turn.{Gives, judged_of};
 
 use crate::Next;
+use crate::appendix::Appendix;
 use crate::element::{ElementText, MAX_TEXT};
 use crate::next::Stop;
 use crate::turn::turn;
@@ -15,21 +17,27 @@ use std::alloc::Global;
 use std::marker::Model;
 
 // Reads on until the element is settled.
-fn advance<S: Source>(window: &mut Window, text: &mut ElementText, source: &mut S) -> Next
+fn advance<S: Source>(
+    window: &mut Window,
+    text: &mut ElementText,
+    source: &mut S,
+    appendix: &mut Appendix,
+) -> Next
     requires { window.old.taken ≤ MAX_INPUT }
-    ensures gives { Gives result text.old window.old (S.left source.old) text.new window.new (S.left source.new) }
+    ensures gives { Gives result text.old window.old (append_known (S.left source.old) appendix.old) text.new window.new (append_known (S.left source.new) appendix.new) }
     ensures input { result ≢ Next.InputTooLong → window.new.taken ≤ MAX_INPUT }
     ensures most { window.new.taken ≤ MAX_INPUT + 1 }
     ensures moved { judged_of window.old ≤ judged_of window.new }
     ensures judged { judged_of window.new ≤ MAX_INPUT }
     ensures given { result ≡ Next.Element → judged_of window.old < judged_of window.new }
-    ensures ended { result ≡ Next.End → IfSome (S.left source.new) (λ bytes. bytes ≡ []) }
+    ensures ended { result ≡ Next.End → IfSome (append_known (S.left source.new) appendix.new) (λ bytes. bytes ≡ []) }
+    ensures spent { appendix.old ≡ [] → appendix.new ≡ [] }
     ensures later { S.faults source.old ≤ S.faults source.new }
     ensures kept { result ≢ Next.ReadFault → S.faults source.new ≡ S.faults source.old }
     ensures failed { result ≡ Next.ReadFault → Rose (S.faults source.old) (S.faults source.new) }
 {
     loop {
-        if let Some(answer) = turn(window, text, source) {
+        if let Some(answer) = turn(window, text, source, appendix) {
             return answer;
         }
     }
@@ -91,6 +99,27 @@ impl ChunkReader {
         ensures kept { result ≢ Next.ReadFault → S.faults source.new ≡ S.faults source.old }
         ensures failed { result ≡ Next.ReadFault → Rose (S.faults source.old) (S.faults source.new) }
     {
+        let mut none = Appendix::none();
+        self.next_with(source, &mut none)
+    }
+
+    /// As `next`, where the input is what the source gives and behind its end the appendix.
+    pub fn next_with<S: Source>(&mut self, source: &mut S, appendix: &mut Appendix) -> Next
+        ensures answer { option_map (outlook self.old) (append_known (S.left source.old) appendix.old) ≡ option_map (told result self.new) (append_known (S.left source.new) appendix.new) }
+        ensures settled { Settled result self.old (append_known (S.left source.old) appendix.old) self.new (append_known (S.left source.new) appendix.new) }
+        ensures given { self.new.is_given ≡ is_element result }
+        ensures stop { self.new.stop ≡ stop_of result }
+        ensures input { self.new.stop ≡ None → self.new.taken ≤ MAX_INPUT }
+        ensures most { self.new.taken ≤ MAX_INPUT + 1 }
+        ensures moved { judged self.old ≤ judged self.new }
+        ensures progress { self.old.stop ≡ None → result ≡ Next.Element → judged self.old < judged self.new }
+        ensures bound { judged self.new ≤ MAX_INPUT }
+        ensures ended { self.old.stop ≡ None → result ≡ Next.End → IfSome (append_known (S.left source.new) appendix.new) (λ bytes. bytes ≡ []) }
+        ensures spent { appendix.old ≡ [] → appendix.new ≡ [] }
+        ensures later { S.faults source.old ≤ S.faults source.new }
+        ensures kept { result ≢ Next.ReadFault → S.faults source.new ≡ S.faults source.old }
+        ensures failed { result ≡ Next.ReadFault → Rose (S.faults source.old) (S.faults source.new) }
+    {
         if let Some(stop) = self.stop {
             return stop.next();
         }
@@ -99,10 +128,17 @@ impl ChunkReader {
             self.number += 1;
             self.text.clear();
         }
-        let answer = advance(&mut self.window, &mut self.text, source);
+        let answer = advance(&mut self.window, &mut self.text, source, appendix);
         self.is_given = answer.is_element();
         self.stop = answer.stop();
         answer
+    }
+
+    /// How many bytes were taken.
+    pub fn taken(&self) -> usize
+        ensures { result ≡ self.now.taken }
+    {
+        self.window.taken()
     }
 
     /// The element's text so far.

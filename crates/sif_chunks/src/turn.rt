@@ -1,11 +1,13 @@
 // One turn of a reader: a step of the split, and more bytes where it needs them.
 ghost use Rattle.std.specs.Prelude.{◌≡◌, ◌≢◌, ◌+◌, ◌<◌, ◌≤◌, ℕ, [], Some, IfSome, length};
+ghost use Rattle.std.specs.Io.KnownBytes.{append_known};
 ghost use Rattle.st_base.specs.Streams.{Rose};
 ghost use Rattle.sif_chunks.specs.Reading.{answer_at, tells};
 ghost use Rattle.sif_chunks.specs.Step.{IsSpent};
 ghost use Rattle.sif_chunks.specs.Turn.{judged_of, Ends, Turns};
 
 use crate::Next;
+use crate::appendix::Appendix;
 use crate::element::{ElementText, MAX_TEXT};
 use crate::step::{Step, go_on};
 use crate::window::{Fill, MAX_INPUT, Window};
@@ -33,15 +35,17 @@ pub(crate) fn turn<S: Source>(
     window: &mut Window,
     text: &mut ElementText,
     source: &mut S,
+    appendix: &mut Appendix,
 ) -> Option<Next>
     requires { window.old.taken ≤ MAX_INPUT }
-    ensures turns { Turns result text.old window.old (S.left source.old) text.new window.new (S.left source.new) }
+    ensures turns { Turns result text.old window.old (append_known (S.left source.old) appendix.old) text.new window.new (append_known (S.left source.new) appendix.new) }
     ensures input { result ≢ Some Next.InputTooLong → window.new.taken ≤ MAX_INPUT }
     ensures most { window.new.taken ≤ MAX_INPUT + 1 }
     ensures moved { judged_of window.old ≤ judged_of window.new }
     ensures judged { judged_of window.new ≤ MAX_INPUT }
     ensures given { result ≡ Some Next.Element → judged_of window.old < judged_of window.new }
-    ensures ended { result ≡ Some Next.End → IfSome (S.left source.new) (λ bytes. bytes ≡ []) }
+    ensures ended { result ≡ Some Next.End → IfSome (append_known (S.left source.new) appendix.new) (λ bytes. bytes ≡ []) }
+    ensures spent { appendix.old ≡ [] → appendix.new ≡ [] }
     ensures later { S.faults source.old ≤ S.faults source.new }
     ensures kept { result ≢ Some Next.ReadFault → S.faults source.new ≡ S.faults source.old }
     ensures failed { result ≡ Some Next.ReadFault → Rose (S.faults source.old) (S.faults source.new) }
@@ -58,7 +62,7 @@ pub(crate) fn turn<S: Source>(
             text.clear();
             None
         }
-        Step::More => match window.refill(source) {
+        Step::More => match window.refill(source, appendix) {
             Fill::Some => None,
             Fill::End => Some(finish(window, text)),
             Fill::Beyond => Some(Next::InputTooLong),

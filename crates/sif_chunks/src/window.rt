@@ -1,8 +1,10 @@
 // The bytes of the input that are in hand.
 ghost use Rattle.std.specs.Prelude.{◌≡◌, ◌≢◌, ◌+◌, ◌≤◌, [], IfOk, length, drop};
+ghost use Rattle.std.specs.Io.KnownBytes.{append_known};
 ghost use Rattle.st_base.specs.Streams.{Rose};
 ghost use Rattle.sif_chunks.specs.Window.{Fills};
 
+use crate::appendix::{Appendix, take_with};
 use st_base::{OutOfMemory, Source};
 use std::alloc::Global;
 use std::marker::Model;
@@ -63,6 +65,13 @@ impl Window {
         &self.bytes[self.start..self.end]
     }
 
+    /// How many bytes were taken.
+    pub fn taken(&self) -> usize
+        ensures { result ≡ self.now.taken }
+    {
+        self.taken
+    }
+
     /// Takes the first bytes as judged.
     pub fn pass(&mut self, count: usize)
         requires { count ≤ length self.old.pending }
@@ -71,11 +80,12 @@ impl Window {
         self.start += count;
     }
 
-    /// Takes the next bytes of the source, and none behind the longest input but one.
-    pub fn refill<S: Source>(&mut self, source: &mut S) -> Fill
+    /// Takes the next bytes of the source, or those behind its end, and none behind the longest input but one.
+    pub fn refill<S: Source>(&mut self, source: &mut S, appendix: &mut Appendix) -> Fill
         requires spent { length self.old.pending ≤ 1 }
         requires input { self.old.taken ≤ MAX_INPUT }
-        ensures bytes { Fills self.old (S.left source.old) result self.new (S.left source.new) }
+        ensures bytes { Fills self.old (append_known (S.left source.old) appendix.old) result self.new (append_known (S.left source.new) appendix.new) }
+        ensures spent { appendix.old ≡ [] → appendix.new ≡ [] }
         ensures later { S.faults source.old ≤ S.faults source.new }
         ensures kept { result ≢ Fill.Failed → S.faults source.new ≡ S.faults source.old }
         ensures failed { result ≡ Fill.Failed → Rose (S.faults source.old) (S.faults source.new) }
@@ -85,7 +95,7 @@ impl Window {
         self.start = 0;
         self.end = kept;
         let room = PIECE.min(MAX_INPUT - self.taken).max(1);
-        match source.take(&mut self.bytes[kept..kept + room]) {
+        match take_with(source, appendix, &mut self.bytes[kept..kept + room]) {
             Ok(0) => Fill::End,
             Ok(count) => {
                 self.end += count;

@@ -7,7 +7,7 @@ use Rattle.std.proofs.Math.Seq.{take-nil}
 use Rattle.std.proofs.Math.Dec.{leb-zero}
 use Rattle.sif_chunks.specs.Split.{Parts, parts_of}
 use Rattle.sif_chunks.specs.Reading as chunks
-use Rattle.sif_chunks.specs.Reading.{Reader, outlook, outlook_over, told, tells, told_over, stopped, Settled, max_input}
+use Rattle.sif_chunks.specs.Reading.{Takes, Reader, outlook, outlook_over, told, tells, told_over, stopped, Settled, max_input}
 use Rattle.sif_chunks.specs.Answers.{is_element}
 use Rattle.sif_chunks.specs.declared.next.Next.{Next}
 use Rattle.sif_chunks.specs.declared.next.Next.TheVariants as next
@@ -202,3 +202,6 @@ leaves_open p n old new file before now begun settled short so_far =
 pub fault_leaves_open : (p : Progress) (n : ℕ) (old new : Reader) (first before now : Option (List ℕ)) → IsBefore n old → Settled next.ReadFault old before new now → new.taken ≤ max_input → IfSome first (λ file. TakenSoFar file before p n old) → IfSome first (λ file. LeavesOpen file now)
 fault_leaves_open p n old new None before now begun settled short so_far = tt
 fault_leaves_open p n old new (Some file) before now begun settled short so_far = leaves_open p n old new file before now begun settled short so_far
+
+pub counted_takes : (reader : Reader) (first now : Option (List ℕ)) → Counted first now reader → (got : List ℕ) × Takes 0 reader.taken first now got
+counted_takes reader first now so_far = (so_far.got, record { bytes = so_far.front; count = omega (arith, so_far.count) })

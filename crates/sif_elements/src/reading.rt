@@ -1,6 +1,8 @@
 // The whole of a file, element by element.
-ghost use Rattle.std.specs.Prelude.{◌≡◌, ◌≢◌, ◌-◌, ◌<◌, ◌≤◌, ◌^◌, [], length, Some, IfSome};
+ghost use Rattle.std.specs.Prelude.{◌≡◌, ◌≢◌, ◌-◌, ◌<◌, ◌≤◌, ◌^◌, ℕ, List, [], length, Some, IfSome};
+ghost use Rattle.std.specs.Io.KnownBytes.{append_known};
 ghost use Rattle.st_base.specs.Streams.{Rose};
+ghost use Rattle.sif_chunks.specs.Reading.{Takes};
 ghost use Rattle.st_tree.specs.Numbers.{elements_in};
 ghost use Rattle.sif_elements.specs.Steps.{reading, step_of, at_end};
 ghost use Rattle.sif_elements.specs.Turns.{turn_of, turn_behind, made, Ends};
@@ -8,7 +10,7 @@ ghost use Rattle.sif_elements.specs.Answered.{said, IfRead, Took, LeavesOpen};
 ghost use Rattle.st_tree.specs.Small.{IsSmall};
 
 use crate::progress::{Progress, Stepped, step};
-use sif_chunks::{ChunkReader, Next};
+use sif_chunks::{Appendix, ChunkReader, Next};
 use st_base::{Place, Reason, Source};
 use st_tree::units::Definition;
 use std::alloc::Global;
@@ -79,6 +81,50 @@ fn turn(alloc: Global, progress: Progress, next: Next, reader: &ChunkReader) -> 
     }
 }
 
+/// What reading a file comes to, and how many bytes were taken.
+#[derive(Drop)]
+pub struct FileRead {
+    pub answer: ReadAnswer,
+    pub bytes: usize,
+}
+
+/// As `read_definition`, where the file is what the source gives and behind its end the appendix.
+pub fn read_file<S: Source>(alloc: Global, source: &mut S, appendix: &mut Appendix) -> FileRead
+    ensures told { IfSome (append_known (S.left source.old) appendix.old) (λ file. IfSome (said result.answer) (λ answer. reading file ≡ answer)) }
+    ensures ended { IfRead result.answer (λ units. IfSome (append_known (S.left source.new) appendix.new) (λ bytes. bytes ≡ [])) }
+    ensures few { IfRead result.answer (λ units. elements_in units < 2 ^ 32 - 1) }
+    ensures small { IfRead result.answer IsSmall }
+    ensures took { Took (append_known (S.left source.old) appendix.old) (append_known (S.left source.new) appendix.new) }
+    ensures unsettled { result.answer ≡ ReadAnswer.ReadFault → IfSome (append_known (S.left source.old) appendix.old) (λ file. LeavesOpen file (append_known (S.left source.new) appendix.new)) }
+    ensures kept { result.answer ≢ ReadAnswer.ReadFault → S.faults source.new ≡ S.faults source.old }
+    ensures failed { result.answer ≡ ReadAnswer.ReadFault → Rose (S.faults source.old) (S.faults source.new) }
+    ensures counted { (got : List ℕ) × Takes 0 result.bytes (append_known (S.left source.old) appendix.old) (append_known (S.left source.new) appendix.new) got }
+    ensures spent { appendix.old ≡ [] → appendix.new ≡ [] }
+{
+    let mut reader = match ChunkReader::new(alloc) {
+        Ok(reader) => reader,
+        Err(_) => {
+            return FileRead {
+                answer: ReadAnswer::OutOfMemory,
+                bytes: 0,
+            };
+        }
+    };
+    let mut progress = Progress::Start;
+    loop {
+        let next = reader.next_with(source, appendix);
+        match turn(alloc, progress, next, &reader) {
+            Turned::Goes(after) => progress = after,
+            Turned::Ends(answer) => {
+                return FileRead {
+                    answer,
+                    bytes: reader.taken(),
+                };
+            }
+        }
+    }
+}
+
 /// Reads a file to its end, or to the first element that is refused, whichever way the source
 /// divides it (ANSI NCITS 319, 4.1). No element behind a faulty one is judged, and no byte more is
 /// taken than shows a file to be too long.
@@ -92,16 +138,7 @@ pub fn read_definition<S: Source>(alloc: Global, source: &mut S) -> ReadAnswer
     ensures kept { result ≢ ReadAnswer.ReadFault → S.faults source.new ≡ S.faults source.old }
     ensures failed { result ≡ ReadAnswer.ReadFault → Rose (S.faults source.old) (S.faults source.new) }
 {
-    let mut reader = match ChunkReader::new(alloc) {
-        Ok(reader) => reader,
-        Err(_) => return ReadAnswer::OutOfMemory,
-    };
-    let mut progress = Progress::Start;
-    loop {
-        let next = reader.next(source);
-        match turn(alloc, progress, next, &reader) {
-            Turned::Goes(after) => progress = after,
-            Turned::Ends(answer) => return answer,
-        }
-    }
+    let mut none = Appendix::none();
+    let read = read_file(alloc, source, &mut none);
+    read.answer
 }

@@ -44,6 +44,15 @@ impl Checked {
     {
         &self.definition
     }
+
+    /// The program alone.
+    pub fn into_definition(self) -> Definition
+        ensures same { result ≡ self }
+        ensures meets { MeetsRules result.units }
+        ensures few { elements_in result.units < 2 ^ 32 - 1 }
+    {
+        self.definition
+    }
 }
 
 /// What a check answers.

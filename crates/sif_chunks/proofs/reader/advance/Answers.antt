@@ -1,11 +1,13 @@
 use Rattle.std.proofs.Common.{arith, ◌∙◌, [], ◌++◌, refl}
+use Rattle.std.specs.Io.KnownBytes.{append_known}
 use Rattle.sif_chunks.proofs.Moves.{moves_none, moves_moves, moves_gives}
 use Rattle.sif_chunks.proofs.reader.advance.Goals as goal
 
 pub loop-answer-init : goal.loop-answer-init
 loop-answer-init g c = record {
-  moves = ([], moves_none c.args.text.now c.args.window.now (g.S.Source.left c.args.source.now) c.requires);
+  moves = ([], moves_none c.args.text.now c.args.window.now (append_known (g.S.Source.left c.args.source.now) c.args.appendix.now) c.requires);
   moved = omega arith;
+  spent = λ none. none;
   faults = refl;
 }
 
@@ -14,8 +16,9 @@ loop-answer-preserved g c =
     let before = c.loop-answer.invariant.moves in
     let now = c.in_default.ensures.turns.0 in
     record {
-      moves = (before.0 ++ now.0, moves_moves c.args.text.now c.loop-answer.text c.turn.new.text c.args.window.now c.loop-answer.window c.turn.new.window (g.S.Source.left c.args.source.now) (g.S.Source.left c.loop-answer.source) (g.S.Source.left c.turn.new.source) before.0 now.0 before.1 now.1);
+      moves = (before.0 ++ now.0, moves_moves c.args.text.now c.loop-answer.text c.turn.new.text c.args.window.now c.loop-answer.window c.turn.new.window (append_known (g.S.Source.left c.args.source.now) c.args.appendix.now) (append_known (g.S.Source.left c.loop-answer.source) c.loop-answer.appendix) (append_known (g.S.Source.left c.turn.new.source) c.turn.new.appendix) before.0 now.0 before.1 now.1);
       moved = omega (arith, c.in_default.ensures.moved, c.loop-answer.invariant.moved);
+      spent = λ none. c.in_default.ensures.spent (c.loop-answer.invariant.spent none);
       faults = c.in_default.ensures.kept (λ e. cc) ∙ c.loop-answer.invariant.faults;
     }
 
@@ -25,4 +28,4 @@ loop-answer-smaller g c = omega (arith, c.in_default.ensures.turns.1, c.in_defau
 pub returns-in-Some-clause-gives : goal.returns-in-Some-clause-gives
 returns-in-Some-clause-gives g c =
     let before = c.loop-answer.invariant.moves in
-    moves_gives c.in-Some.answer c.args.text.now c.loop-answer.text c.turn.new.text c.args.window.now c.loop-answer.window c.turn.new.window (g.S.Source.left c.args.source.now) (g.S.Source.left c.loop-answer.source) (g.S.Source.left c.turn.new.source) before.0 before.1 c.in-Some.ensures.turns
+    moves_gives c.in-Some.answer c.args.text.now c.loop-answer.text c.turn.new.text c.args.window.now c.loop-answer.window c.turn.new.window (append_known (g.S.Source.left c.args.source.now) c.args.appendix.now) (append_known (g.S.Source.left c.loop-answer.source) c.loop-answer.appendix) (append_known (g.S.Source.left c.turn.new.source) c.turn.new.appendix) before.0 before.1 c.in-Some.ensures.turns

@@ -1,101 +1,26 @@
--- The turns of reading, one after another.
-use Rattle.std.proofs.Common.{◌≡◌, ◌∙◌, ◌+◌, ◌-◌, ◌^◌, ◌<◌, List, refl, sym, subst, arith}
-use Rattle.sif_chunks.specs.Reading.{judged}
-use Rattle.sif_chunks.specs.declared.next.Next.TheVariants as next
-use Rattle.st_tree.specs.Numbers.{elements_in}
-use Rattle.st_tree.specs.declared.units.Unit.{Unit}
-use Rattle.sif_elements.specs.declared.progress.Progress.{Progress}
-use Rattle.st_tree.specs.Small.{IsSmall}
-use Rattle.sif_elements.specs.Turns.{Onward, turn_of}
-use Rattle.sif_elements.proofs.Only.{takes_of}
-use Rattle.sif_elements.proofs.Ahead.{IsBefore-new, IsBefore-given, at_start, at_answer, after_element, answered, turn_goes, step_goes, fault_fails, no_fault, if_read, if_ended, if_between}
-use Rattle.sif_elements.proofs.TakenLemmas.{taken_at_start, taken_on, counted_at_start, counted_on, took, fault_leaves_open}
-use Rattle.sif_elements.proofs.TextBytes.{text_judged}
-use Rattle.sif_elements.proofs.Sized.{IsSized, sized_at_start, sized_more, small_between}
-use Rattle.sif_elements.proofs.Counts.{few_more}
+-- A file that a source gives alone.
+use Rattle.std.proofs.Common.{◌≡◌, IfSome, []}
+use Rattle.sif_chunks.proofs.Alone.{of_alone}
+use Rattle.sif_elements.specs.Steps.{reading}
+use Rattle.sif_elements.specs.Answered.{said, IfRead, Took, LeavesOpen}
 use Rattle.sif_elements.proofs.reading.read_definition.Goals as goal
 
-pub loop-after-init : goal.loop-after-init
-loop-after-init g c = rw c.in-Ok.ensures record {
-  ahead = (1, IsBefore-new, at_start (g.S.Source.left c.args.source.now), taken_at_start (g.S.Source.left c.args.source.now));
-  counted = counted_at_start (g.S.Source.left c.args.source.now);
-  faults = refl;
-  bound = omega arith;
-  held = omega arith;
-  sized = sized_at_start;
-  few = omega arith;
-}
+pub returns-clause-told : goal.returns-clause-told
+returns-clause-told g c =
+    of_alone (λ left now. IfSome left (λ file. IfSome (said c.read_file-read.result.answer) (λ answer. reading file ≡ answer))) (g.S.Source.left c.args.source.now) (g.S.Source.left c.read_file-read.new.source) c.read_file-read.new.appendix
+    (c.read_file-read.ensures.spent c.none-none.ensures) (rw c.none-none.ensures at c.read_file-read.ensures.told)
 
-pub loop-after-smaller : goal.loop-after-smaller
-loop-after-smaller g c =
-    let moved = c.next-next.ensures.progress c.loop-after.invariant.ahead.1.live (turn_goes c.loop-after.progress c.in-Goes.after c.next-next.result c.next-next.new.self.number c.next-next.new.self.text c.in-Goes.ensures.made) in
-    omega (arith, moved, c.next-next.ensures.bound)
+pub returns-clause-ended : goal.returns-clause-ended
+returns-clause-ended g c =
+    of_alone (λ left now. IfRead c.read_file-read.result.answer (λ units. IfSome now (λ bytes. bytes ≡ []))) (g.S.Source.left c.args.source.now) (g.S.Source.left c.read_file-read.new.source) c.read_file-read.new.appendix
+    (c.read_file-read.ensures.spent c.none-none.ensures) c.read_file-read.ensures.ended
 
-pub loop-after-preserved : goal.loop-after-preserved
-loop-after-preserved g c =
-    let first = g.S.Source.left c.args.source.now in
-    let before = g.S.Source.left c.loop-after.source in
-    let after = g.S.Source.left c.next-next.new.source in
-    let p = c.loop-after.progress in
-    let q = c.in-Goes.after in
-    let old = c.loop-after.reader in
-    let new = c.next-next.new.self in
-    let n = c.loop-after.invariant.ahead.0 in
-    let begun = c.loop-after.invariant.ahead.1 in
-    let turns : Onward q ≡ turn_of p c.next-next.result new.number new.text = c.in-Goes.ensures.made in
-    let element : c.next-next.result ≡ next.Element = turn_goes p q c.next-next.result new.number new.text turns in
-    let takes = takes_of p new.text q (step_goes p q c.next-next.result new.number new.text turns) in
-    let few = few_more takes in
-    let moved = c.next-next.ensures.progress begun.live element in
-    let bytes = text_judged n old new before after begun (rw element at c.next-next.ensures.settled) c.loop-after.invariant.held in
-    record {
-      ahead = (
-        new.number + 1,
-        IsBefore-given new (rw element at c.next-next.ensures.stop) (rw element at c.next-next.ensures.given),
-        after_element p q new c.next-next.result first after turns (at_answer p n old new c.next-next.result first before after begun c.loop-after.invariant.ahead.2 c.next-next.ensures.answer),
-        taken_on p q n old new c.next-next.result first before after begun c.next-next.ensures.settled c.next-next.ensures.answer turns c.loop-after.invariant.ahead.3,
-      );
-      counted = counted_on c.next-next.result old new first before after c.next-next.ensures.settled c.loop-after.invariant.counted;
-      faults = c.next-next.ensures.kept (λ fault. let k : next.Element ≡ next.ReadFault = sym element ∙ fault in cc) ∙ c.loop-after.invariant.faults;
-      bound = c.next-next.ensures.bound;
-      held = bytes.0;
-      sized = sized_more (judged old) (judged new) (c.in-Goes.ensures.short element) takes moved bytes.1 c.loop-after.invariant.sized;
-      few = omega (arith, few, moved, c.loop-after.invariant.few);
-    }
+pub returns-clause-took : goal.returns-clause-took
+returns-clause-took g c =
+    of_alone Took (g.S.Source.left c.args.source.now) (g.S.Source.left c.read_file-read.new.source) c.read_file-read.new.appendix
+    (c.read_file-read.ensures.spent c.none-none.ensures) (rw c.none-none.ensures at c.read_file-read.ensures.took)
 
-pub returns-in-Ends-clause-told : goal.returns-in-Ends-clause-told
-returns-in-Ends-clause-told g c =
-    answered c.loop-after.progress c.next-next.result c.in-Ends.answer c.next-next.new.self (g.S.Source.left c.args.source.now) (g.S.Source.left c.next-next.new.source) c.in-Ends.ensures.made
-    (at_answer c.loop-after.progress c.loop-after.invariant.ahead.0 c.loop-after.reader c.next-next.new.self c.next-next.result (g.S.Source.left c.args.source.now) (g.S.Source.left c.loop-after.source) (g.S.Source.left c.next-next.new.source) c.loop-after.invariant.ahead.1 c.loop-after.invariant.ahead.2 c.next-next.ensures.answer)
-
-pub returns-in-Ends-clause-ended : goal.returns-in-Ends-clause-ended
-returns-in-Ends-clause-ended g c =
-    if_ended _ c.loop-after.progress c.next-next.result c.in-Ends.answer c.next-next.new.self.number c.next-next.new.self.text c.in-Ends.ensures.made (c.next-next.ensures.ended c.loop-after.invariant.ahead.1.live)
-
-pub returns-in-Ends-clause-few : goal.returns-in-Ends-clause-few
-returns-in-Ends-clause-few g c =
-    if_read (λ (units : List Unit). elements_in units < 2 ^ 32 - 1) c.loop-after.progress c.next-next.result c.in-Ends.answer c.next-next.new.self.number c.next-next.new.self.text c.in-Ends.ensures.made (omega (arith, c.loop-after.invariant.few, c.loop-after.invariant.bound))
-
-pub returns-in-Ends-clause-took : goal.returns-in-Ends-clause-took
-returns-in-Ends-clause-took g c =
-    took c.next-next.new.self (g.S.Source.left c.args.source.now) (g.S.Source.left c.next-next.new.source) c.next-next.ensures.most
-    (counted_on c.next-next.result c.loop-after.reader c.next-next.new.self (g.S.Source.left c.args.source.now) (g.S.Source.left c.loop-after.source) (g.S.Source.left c.next-next.new.source) c.next-next.ensures.settled c.loop-after.invariant.counted)
-
-pub returns-in-Ends-clause-unsettled : goal.returns-in-Ends-clause-unsettled
-returns-in-Ends-clause-unsettled g c = λ fault.
-    let fails = fault_fails c.loop-after.progress c.next-next.result c.in-Ends.answer c.next-next.new.self.number c.next-next.new.self.text c.in-Ends.ensures.made fault in
-    fault_leaves_open c.loop-after.progress c.loop-after.invariant.ahead.0 c.loop-after.reader c.next-next.new.self (g.S.Source.left c.args.source.now) (g.S.Source.left c.loop-after.source) (g.S.Source.left c.next-next.new.source) c.loop-after.invariant.ahead.1 (rw fails at c.next-next.ensures.settled) (c.next-next.ensures.input (rw fails at c.next-next.ensures.stop)) c.loop-after.invariant.ahead.3
-
-pub returns-in-Ends-clause-kept : goal.returns-in-Ends-clause-kept
-returns-in-Ends-clause-kept g c = λ other.
-    c.next-next.ensures.kept (no_fault c.next-next.result c.in-Ends.answer c.in-Ends.ensures.fault other) ∙ c.loop-after.invariant.faults
-
-pub returns-in-Ends-clause-failed : goal.returns-in-Ends-clause-failed
-returns-in-Ends-clause-failed g c = λ fault.
-    let fails = fault_fails c.loop-after.progress c.next-next.result c.in-Ends.answer c.next-next.new.self.number c.next-next.new.self.text c.in-Ends.ensures.made fault in
-    rw (← c.loop-after.invariant.faults) (c.next-next.ensures.failed fails)
-
-pub returns-in-Ends-clause-small : goal.returns-in-Ends-clause-small
-returns-in-Ends-clause-small g c =
-    if_between IsSmall c.loop-after.progress c.next-next.result c.in-Ends.answer c.next-next.new.self.number c.next-next.new.self.text c.in-Ends.ensures.made
-    (λ us is. small_between us (judged c.loop-after.reader) c.loop-after.invariant.bound (subst (λ (p : Progress). IsSized p (judged c.loop-after.reader)) is c.loop-after.invariant.sized))
+pub returns-clause-unsettled : goal.returns-clause-unsettled
+returns-clause-unsettled g c = λ fault.
+    of_alone (λ left now. IfSome left (λ file. LeavesOpen file now)) (g.S.Source.left c.args.source.now) (g.S.Source.left c.read_file-read.new.source) c.read_file-read.new.appendix
+    (c.read_file-read.ensures.spent c.none-none.ensures) (rw c.none-none.ensures at (c.read_file-read.ensures.unsettled fault))

@@ -1,34 +1,15 @@
-use Rattle.std.proofs.Common.{[]}
-use Rattle.sif_chunks.proofs.Outlooks.{repeated, repeated_settled, outlook-given, outlook-begun, over-given, over-begun, answered, settled_by}
+use Rattle.std.proofs.Common.{◌≡◌}
+use Rattle.std.specs.Option.{option_map}
+use Rattle.sif_chunks.specs.Reading.{outlook, told, Settled}
+use Rattle.sif_chunks.proofs.Alone.{of_alone}
 use Rattle.sif_chunks.proofs.reader.ChunkReader.next.Goals as goal
-use Rattle.sif_chunks.proofs.reader.ChunkReader.next.Goals.{then-self, else-self}
-
-pub returns-in-Some-clause-answer : goal.returns-in-Some-clause-answer
-returns-in-Some-clause-answer g c =
-    repeated c.args.self.now c.in-Some.stop c.next.result (g.S.Source.left c.args.source.now) (rw (← c.self.view_is) c.in-Some.is) c.next.ensures
-
-pub returns-in-Some-clause-settled : goal.returns-in-Some-clause-settled
-returns-in-Some-clause-settled g c =
-    repeated_settled c.args.self.now c.in-Some.stop c.next.result (g.S.Source.left c.args.source.now) c.next.ensures
 
 pub returns-clause-answer : goal.returns-clause-answer
 returns-clause-answer g c =
-    elim c.if-self.branch [
-      | then-self w ↦
-          let gives = rw (w.self-inside-is, w.clear.ensures) at c.advance-answer.ensures.gives in
-          rw (← c.self.view_is, w.self-inside-is) (answered c.advance-answer.result [] _ _ (g.S.Source.left c.args.source.now) (g.S.Source.left c.advance-answer.new.source) (outlook-given _ c.in_default.is w.if-self.true) gives)
-      | else-self w ↦
-          let gives = rw w.self-inside-is at c.advance-answer.ensures.gives in
-          rw (← c.self.view_is, w.self-inside-is) (answered c.advance-answer.result c.self.inside.text _ _ (g.S.Source.left c.args.source.now) (g.S.Source.left c.advance-answer.new.source) (outlook-begun _ c.in_default.is w.if-self.false) gives)
-    ]
+    of_alone (λ left now. option_map (outlook c.args.self.now) left ≡ option_map (told c.next_with.result c.next_with.new.self) now) _ _ c.next_with.new.appendix
+    (c.next_with.ensures.spent c.none-none.ensures) (rw c.none-none.ensures at c.next_with.ensures.answer)
 
 pub returns-clause-settled : goal.returns-clause-settled
 returns-clause-settled g c =
-    elim c.if-self.branch [
-      | then-self w ↦
-          let gives = rw (w.self-inside-is, w.clear.ensures) at c.advance-answer.ensures.gives in
-          rw (← c.self.view_is, w.self-inside-is) (settled_by c.advance-answer.result [] _ _ (g.S.Source.left c.args.source.now) (g.S.Source.left c.advance-answer.new.source) (over-given _ c.in_default.is w.if-self.true) gives)
-      | else-self w ↦
-          let gives = rw w.self-inside-is at c.advance-answer.ensures.gives in
-          rw (← c.self.view_is, w.self-inside-is) (settled_by c.advance-answer.result c.self.inside.text _ _ (g.S.Source.left c.args.source.now) (g.S.Source.left c.advance-answer.new.source) (over-begun _ c.in_default.is w.if-self.false) gives)
-    ]
+    of_alone (λ left now. Settled c.next_with.result c.args.self.now left c.next_with.new.self now) _ _ c.next_with.new.appendix
+    (c.next_with.ensures.spent c.none-none.ensures) (rw c.none-none.ensures at c.next_with.ensures.settled)
