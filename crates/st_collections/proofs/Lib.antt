@@ -8,6 +8,6 @@ pub mod Objects
 pub mod Reaches
 pub mod Rooms
 pub mod Steady
-pub mod Tests
+pub mod Conditions
 pub mod TextItems
 pub mod TextOrders

@@ -12,7 +12,7 @@ use Rattle.st_collections.specs.Actions.{first}
 use Rattle.st_collections.specs.Items.{is_measured}
 use Rattle.st_collections.specs.Ordered.{IsOrdered, is_ordered}
 use Rattle.st_collections.specs.declared.message.OfOrdered.{OfOrdered}
-use Rattle.st_collections.proofs.Tests.{measured_so, ordered_so, so_measured, so_ordered}
+use Rattle.st_collections.proofs.Conditions.{measured_so, ordered_so, so_measured, so_ordered}
 use Rattle.st_messages.specs.declared.row.MessageRow.{MessageRow}
 use Rattle.st_messages.specs.Rows.{ordered_row, table_row}
 use Rattle.st_messages.specs.Sent.{IsReady, IsSound, is_changing, is_ready, is_sound}
