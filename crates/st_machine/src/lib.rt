@@ -27,6 +27,3 @@ pub use loaded::Loaded;
 pub use machine::Machine;
 pub use running::{Progress, Stats};
 pub use work::{Ending, Mode, Telling, Told, Work};
-
-#[cfg(test)]
-mod tests;

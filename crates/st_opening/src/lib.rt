@@ -5,6 +5,3 @@ pub mod law;
 mod opened;
 
 pub use opened::open;
-
-#[cfg(test)]
-mod tests;
