@@ -1,5 +1,5 @@
 -- A loop that stands well in a sound store begins and goes on.
-use Rattle.std.proofs.Common.{◌≡◌, ℕ, ◌*◌, ◌/◌, ◌%◌, ◌≤◌, ◌<◌, ℤ, ◌<ℤ◌, int_lt, T, Bool, true, false, not, nat_eq, nat_le, ◌&&◌, length, eqb-true, refl, arith}
+use Rattle.std.proofs.Common.{◌≡◌, ℕ, ◌*◌, ◌/◌, ◌%◌, ◌≤◌, ◌<◌, int_lt, T, Bool, true, false, not, nat_eq, nat_le, ◌&&◌, length, eqb-true, refl, arith}
 use Rattle.std.proofs.lemmas.Bool.Decides.{nat_tests}
 use Rattle.object_heap.specs.declared.value.Value.{Value}
 use Rattle.object_heap.specs.declared.value.Value.TheVariants.{Object}
@@ -14,8 +14,6 @@ use Rattle.st_collections.proofs.Conditions.{so_measured}
 use Rattle.st_loops.specs.Requests.{HasElements, HasGathered, HasPairs, HasRoom, IsKept, IsReceiver}
 use Rattle.st_loops.specs.Tests.{has_elements, has_gathered, has_pairs, has_room, may_change, may_keep}
 use Rattle.st_sound.specs.Receivers.{is_listed, takes_loop}
-use Rattle.st_sound.specs.SoundActions.{LoopStands}
-use Rattle.st_sound.specs.SoundStore.{SoundStore}
 use Rattle.st_sound.proofs.Meets.{values_measured, receivers_stand}
 use Rattle.st_readiness.specs.Readiness.{LoopsMayBegin, LoopsGoOn}
 
@@ -31,16 +29,16 @@ holds false t = absurd t
 roomy_test : (class size room : ℕ) → 0 < class → size ≤ room → (not (nat_eq class 0) && nat_le size room) ≡ true
 roomy_test class size room l e = grind (arith, nat_tests)
 
-single_test : (class size room : ℕ) → class ≡ set_class → size ≤ room → (not (nat_eq class dictionary_class) && not (nat_eq class 0) && nat_le size room) ≡ true
+single_test : (class size room : ℕ) → class ≡ set_class → size ≤ room → (not (nat_eq class dictionary_class) && (not (nat_eq class 0) && nat_le size room)) ≡ true
 single_test class size room c e = grind (arith, nat_tests)
 
 even_rest : (n : ℕ) → n ≡ 2 * (n / 2) → n % 2 ≡ 0
 even_rest n e = omega (arith, e)
 
-paired_test : (class size room size_rest room_rest : ℕ) → class ≡ dictionary_class → size_rest ≡ 0 → room_rest ≡ 0 → size ≤ room → (nat_eq class dictionary_class && nat_eq size_rest 0 && nat_eq room_rest 0 && not (nat_eq class 0) && nat_le size room) ≡ true
+paired_test : (class size room size_rest room_rest : ℕ) → class ≡ dictionary_class → size_rest ≡ 0 → room_rest ≡ 0 → size ≤ room → (nat_eq class dictionary_class && nat_eq size_rest 0 && nat_eq room_rest 0 && (not (nat_eq class 0) && nat_le size room)) ≡ true
 paired_test class size room size_rest room_rest c e f l = grind (arith, nat_tests)
 
-gathered_test : (class size room : ℕ) → class ≡ ordered_collection_class → size ≤ room → (nat_eq class ordered_collection_class && not (nat_eq class 0) && nat_le size room) ≡ true
+gathered_test : (class size room : ℕ) → class ≡ ordered_collection_class → size ≤ room → (nat_eq class ordered_collection_class && (not (nat_eq class 0) && nat_le size room)) ≡ true
 gathered_test class size room c e = grind (arith, nat_tests)
 
 listed_class : (class : ℕ) → is_listed class ≡ true → 0 < class

@@ -1,5 +1,5 @@
 -- What a send finds and does in a sound store.
-use Rattle.std.proofs.Common.{◌≡◌, ℕ, true, List, Option, Some, refl}
+use Rattle.std.proofs.Common.{◌≡◌, true, List, Option, Some, refl}
 use Rattle.object_heap.specs.declared.value.Value.{Value}
 use Rattle.object_heap.specs.Store.{Store}
 use Rattle.st_code.specs.Lookup.{Found, BuiltIn, level_of, lookup, super_lookup}
@@ -27,7 +27,7 @@ ordered_changes OfOrdered.AddBeforeIndex = refl
 ordered_changes OfOrdered.RemoveAtIndex = refl
 
 ready_where_open : (s : Store) → SoundStore s → (found : Option Found) (r : Value) (args : List Value) → ((m : OfOrdered) → found ≡ Some (BuiltIn (Collections (ordered_row m))) → IsOrdered s r) → is_ready s found r args ≡ true
-ready_where_open s h found r args open = ready_done s found r args record { receiver = values_measured s h r; argument = values_measured s h (first args); ordered = open }
+ready_where_open s h found r args ordered = ready_done s found r args record { receiver = values_measured s h r; argument = values_measured s h (first args); ordered = ordered }
 
 pub found_is_ready : FoundIsReady
 found_is_ready p knows s h selector r args =

@@ -5,5 +5,4 @@ mod loops;
 mod sends;
 
 pub use loops::loops_that_stand_go_on;
-pub use sends::what_is_found_is_ready;
-pub use sends::what_a_send_does_stands;
+pub use sends::{what_a_send_does_stands, what_is_found_is_ready};
