@@ -112,7 +112,7 @@ answers_by (act.Signal e) n env v s h x = record { visit = tt; few = h }
 answers_by (act.HandlerRun t) n env v s h x = record { visit = tt; few = h }
 answers_by act.Outer n env v s h x = record { visit = tt; few = h }
 answers_by (act.ResumeWait w k t) n env v s h x = plain (answered_by (act.ResumeWait w k t) n env v s) (asks (is_true v) w k t env (without_top s) h)
-answers_by (act.HandlesWait search entry) n env v s h x = plain (answered_by (act.HandlesWait search entry) n env v s) (judges (is_true v) search entry env (without_top s) h)
+answers_by (act.HandlesWait sought entry) n env v s h x = plain (answered_by (act.HandlesWait sought entry) n env v s) (judges (is_true v) sought entry env (without_top s) h)
 answers_by (act.Loop l) n env v s h x = record { visit = x; few = h }
 
 unwinds_by : (k : Activation) (n : ℕ) (env : Env) (t : Target) (v : Value) (s : Seen) → Few s → Plain (unwound_by k n env t v s)
@@ -126,7 +126,7 @@ unwinds_by (act.Signal e) n env t v s h = resignals (signaled_instead n t) (at_o
 unwinds_by (act.HandlerRun turn) n env t v s h = record { mode = tt; few = h }
 unwinds_by act.Outer n env t v s h = record { mode = tt; few = h }
 unwinds_by (act.ResumeWait w k turn) n env t v s h = record { mode = tt; few = h }
-unwinds_by (act.HandlesWait search entry) n env t v s h = record { mode = tt; few = h }
+unwinds_by (act.HandlesWait sought entry) n env t v s h = record { mode = tt; few = h }
 unwinds_by (act.Loop l) n env t v s h = record { mode = tt; few = h }
 
 outcomes : (o : Outcome) (s : Seen) (acts : List Standing) (m : Mode) → Few s → LoopInnermost acts s.memory.store → Kept (settled o (with s acts m))

@@ -2,5 +2,4 @@ pub mod Plain
 pub mod Instructing
 pub mod Kept
 pub mod Rooms
-pub mod Claims
 pub mod Never

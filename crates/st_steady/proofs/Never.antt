@@ -61,7 +61,7 @@ use Rattle.st_sends.proofs.PassingSends.{sends_pass, super_sends_pass}
 use Rattle.st_sound.specs.SoundRun.{StateSound, ActSound, ActsSound, TopSound}
 use Rattle.st_sound.proofs.SoundRun.{stores_are_sound}
 use Rattle.st_steady.specs.Steady.{Steady}
-use Rattle.st_steady.proofs.Claims.{FoundIsReady, SuperFoundIsReady, LoopsMayBegin, LoopsGoOn, SendsStand, SuperSendsStand}
+use Rattle.st_readiness.specs.Readiness.{FoundIsReady, SuperFoundIsReady, LoopsMayBegin, LoopsGoOn, SendsStand, SuperSendsStand}
 use Rattle.st_steady.proofs.Kept.{Kept, LoopKept, LoopInnermost, AtOutcome, stays_kept}
 use Rattle.st_steady.proofs.Rooms.{Roomy, roomy, fits}
 
@@ -80,7 +80,7 @@ loop_kept p (act.Signal e) n env operands acts t h = tt
 loop_kept p (act.HandlerRun turn) n env operands acts t h = tt
 loop_kept p act.Outer n env operands acts t h = tt
 loop_kept p (act.ResumeWait w k turn) n env operands acts t h = tt
-loop_kept p (act.HandlesWait search entry) n env operands acts t h = tt
+loop_kept p (act.HandlesWait x entry) n env operands acts t h = tt
 
 innermost : (p : Program) (acts : List Standing) (t : Store) → ActsSound p t (acts_of acts) → LoopInnermost acts t
 innermost p [] t h = tt
@@ -166,8 +166,8 @@ module _ (found : FoundIsReady) (super_found : SuperFoundIsReady) (stand : Sends
       works (work.Fail trouble env) s h k x y z = tt
       works (work.Raise e env) s h k x y z = tt
       works (work.RaiseNew class env) s h k x y z = tt
-      works (work.Search search rest) s h k x y z = tt
-      works (work.TurnBy search entry outside) s h k x y z = tt
+      works (work.Search sought rest) s h k x y z = tt
+      works (work.TurnBy sought entry outside) s h k x y z = tt
       works (work.Ask w n turn env) s h k x y z = tt
 
       sound_by : (m : Mode) (s : Seen) → Holds (at plan i) (with s s.stack.acts m) → Kept (with s s.stack.acts m) → Reached plan (top_of tr ev (with s s.stack.acts m)) → IsSound m (with s s.stack.acts m)

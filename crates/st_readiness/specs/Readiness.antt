@@ -1,4 +1,4 @@
--- What is asked of st_readiness, until it stands.
+-- What sends and loops ask of a store holds in a sound one.
 use Rattle.std.specs.Prelude.{◌≡◌, ℕ, true, ◌&&◌, List}
 use Rattle.object_heap.specs.declared.value.Value.{Value}
 use Rattle.object_heap.specs.Store.{Store}
@@ -34,7 +34,7 @@ LoopsGoOn = (s : Store) → SoundStore s → (l : LoopState) → LoopStands s l 
 
 -- ---- what a send does at once
 
--- a loop that it begins stands well, and so on for each action
+-- it leaves a sound store, activates a closure of the class that its code is written in, or begins a loop that stands
 abbrev pub SendsStand : Type 0
 SendsStand = (p : Program) → KnowsCollections p → (s : Store) → SoundStore s → ClosuresWritten p s.closures → (selector : ℕ) (r : Value) (args : List Value) → ActionSound p s (send_action p s selector r args)
 
