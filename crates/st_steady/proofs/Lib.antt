@@ -3,3 +3,4 @@ pub mod Instructing
 pub mod Kept
 pub mod Rooms
 pub mod Never
+pub mod Laws
