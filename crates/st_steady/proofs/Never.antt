@@ -129,7 +129,7 @@ module _ (found : FoundIsReady) (super_found : SuperFoundIsReady) (stand : Sends
 
     module _ (i : ℕ) (tr : Text) (ev : List Event) where
       room_at : (s : Seen) → Holds (at plan i) s → Roomy (P plan) s.passed.room
-      room_at s h = subst (λ n. Roomy (P plan) n) (sym h.firm.arguments) room
+      room_at s h = subst (λ n. Roomy (P plan) n) (sym (h.firm.arguments ∙ ap room_in h.firm.same)) room
 
       sends : (selector : ℕ) (receiver : Value) (s : Seen) → Holds (at plan i) s → Kept s → StateSound (P plan) (state_of tr ev s) → Takes (P plan) selector (length s.passed.values) → IsSent (send_is_sound selector receiver s) (send_of selector receiver s) s
       sends selector receiver s h k sound takes =
