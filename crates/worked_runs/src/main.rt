@@ -40,7 +40,12 @@ fn main(rt: HostRuntime) -> Result<()> {
     for line in BufReader::new(alloc, rt.reader())?.lines(alloc) {
         let program: Program = serde_json::from_str(alloc, line?.as_str())?;
         let differing = try_runs(&rt, &program)?;
-        println!(rt; "{}: {} runs, {} differ", program.name, program.runs.len(), differing)?;
+        println!(rt;
+            "{}: {} runs, {} differ",
+            program.name,
+            program.runs.len(),
+            differing
+        )?;
     }
     Ok(())
 }
