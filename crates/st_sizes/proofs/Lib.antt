@@ -1,0 +1,4 @@
+pub mod CodeLengths
+pub mod Moves
+pub mod MadeLengths
+pub mod SmallPrograms
