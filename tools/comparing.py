@@ -35,15 +35,6 @@ def program():
     return subprocess.run([build], stdout=subprocess.PIPE, text=True, check=True).stdout.strip()
 
 
-def runs_all(name):
-    """Whether `run` takes every program; until it does, nothing is compared of runs."""
-    data = b"Smalltalk interchangeVersion: '1.0'!\nGlobal initializer!\nTranscript show: 3 printString!\n"
-    if b"Unbuilt" in answer([program(), "run"], data)[2]:
-        print("%s: skipped, since run refuses what it can't run yet" % name)
-        return False
-    return True
-
-
 def answer(words, data, cuts=()):
     """The status, output and report of the program for an input that is written in the pieces that the cuts make."""
     with subprocess.Popen(words, stdin=subprocess.PIPE, stdout=subprocess.PIPE, stderr=subprocess.PIPE) as run:

@@ -79,16 +79,41 @@ impl Sink for StdOut {
     }
 }
 
-/// Standard error, with a count of its errors. A write that takes no bytes is one.
+/// Standard error, with a count of its errors. What is written is gathered until it is finished, so
+/// that it stands behind the output; where memory can't hold it, it is written at once.
 #[derive(Drop)]
 pub struct StdReport {
     output: Stderr,
+    gathered: Vec<u8>,
     faults: u64,
 }
 
 impl StdReport {
-    pub fn new(output: Stderr) -> StdReport {
-        StdReport { output, faults: 0 }
+    pub fn new(alloc: Global, output: Stderr) -> StdReport {
+        StdReport {
+            output,
+            gathered: Vec::new(alloc),
+            faults: 0,
+        }
+    }
+
+    /// Writes what is still gathered.
+    pub fn finish(&mut self) -> Result<(), Failed> {
+        let written = self.output.write_all(self.gathered.as_slice());
+        self.gathered.clear();
+        match written {
+            Ok(()) => Ok(()),
+            Err(_) => Err(Failed),
+        }
+    }
+
+    // Some of the bytes at once, behind what is gathered.
+    fn write_now(&mut self, bytes: &[u8]) -> Result<usize, Failed> {
+        self.finish()?;
+        match self.output.write(bytes) {
+            Ok(count) if count > 0 => Ok(count),
+            _ => Err(Failed),
+        }
     }
 }
 
@@ -98,9 +123,12 @@ impl Sink for StdReport {
     ghost faults = { λ s. s.faults };
 
     fn put(&mut self, bytes: &[u8]) -> Result<usize, Failed> {
-        match self.output.write(bytes) {
-            Ok(count) if count > 0 => Ok(count),
-            _ => {
+        if self.gathered.extend_from_slice(bytes).is_ok() {
+            return Ok(bytes.len());
+        }
+        match self.write_now(bytes) {
+            Ok(count) => Ok(count),
+            Err(_) => {
                 self.faults = self.faults.saturating_add(1);
                 Err(Failed)
             }
@@ -133,8 +161,9 @@ mod tests {
 
     #[test]
     fn standard_error_takes_bytes(rt: HostRuntime) {
-        let mut report = StdReport::new(rt.stderr());
+        let mut report = StdReport::new(rt.alloc(), rt.stderr());
         assert!(rt; put_all(&mut report, b"report\n").is_ok());
+        assert!(rt; report.finish().is_ok());
         assert_eq!(rt; report.faults, 0);
     }
 }

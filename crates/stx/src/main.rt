@@ -16,9 +16,16 @@ fn words(rt: &HostRuntime) -> io::Result<Vec<String>> {
     }
 }
 
-// What is still gathered is written; where that fails, nothing more is.
-fn finished(out: &mut StdOut, status: u8) -> u8 {
+// What is still gathered is written, the output before the report. Where one fails, nothing more is.
+fn finished(out: &mut StdOut, report: &mut StdReport, status: u8) -> u8 {
     match out.finish() {
+        Ok(()) => reported(report, status),
+        Err(_) => 9,
+    }
+}
+
+fn reported(report: &mut StdReport, status: u8) -> u8 {
+    match report.finish() {
         Ok(()) => status,
         Err(_) => 9,
     }
@@ -26,13 +33,16 @@ fn finished(out: &mut StdOut, status: u8) -> u8 {
 
 fn main(rt: HostRuntime) -> ExitCode {
     let mut source = StdSource::new(rt.stdin());
-    let mut report = StdReport::new(rt.stderr());
+    let mut report = StdReport::new(rt.alloc(), rt.stderr());
     let status = match (words(&rt), StdOut::new(rt.alloc(), rt.stdout())) {
         (Ok(words), Ok(mut out)) => {
             let status = st_run::stx(rt.alloc(), &words, &mut source, &mut out, &mut report);
-            finished(&mut out, status)
+            finished(&mut out, &mut report, status)
         }
-        _ => st_run::report_want_of_memory(&mut report),
+        _ => {
+            let status = st_run::report_want_of_memory(&mut report);
+            reported(&mut report, status)
+        }
     };
     ExitCode::from(status)
 }

@@ -1,0 +1,50 @@
+// A program, and what each of its runs has to come to.
+
+use serde::Deserialize;
+
+/// A program and its runs.
+#[derive(Drop, Deserialize)]
+#[serde(deny_unknown_fields)]
+pub struct Program {
+    /// What the program shows.
+    pub name: String,
+
+    /// The interchange file.
+    pub input: String,
+
+    pub runs: Vec<Run>,
+}
+
+/// How a program is run, and what comes of it.
+#[derive(Drop, Deserialize)]
+#[serde(deny_unknown_fields)]
+pub struct Run {
+    /// The words of the command line.
+    pub words: Vec<String>,
+
+    pub status: u8,
+
+    #[serde(default)]
+    pub out: String,
+
+    #[serde(default)]
+    pub report: String,
+
+    /// How often a device fails.
+    #[serde(default)]
+    pub faults: u64,
+
+    /// How many bytes the input gives at once; 0 sets no bound.
+    #[serde(default)]
+    pub piece: usize,
+
+    /// The calls of each device that fail, counted from 0.
+    #[serde(default)]
+    pub failing_reads: Vec<u64>,
+
+    #[serde(default)]
+    pub failing_writes: Vec<u64>,
+
+    #[serde(default)]
+    pub failing_reports: Vec<u64>,
+}
