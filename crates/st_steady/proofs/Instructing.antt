@@ -1,7 +1,6 @@
 -- An instruction passes on no more values than there is room for, and begins no visit.
-use Rattle.std.proofs.Common.{◌≡◌, ℕ, zero, suc, ◌+◌, ◌≤◌, min, List, [], ◌∷◌, length, Bool, true, false, Option, Some, None, slice_get, refl, arith}
+use Rattle.std.proofs.Common.{◌≡◌, ℕ, zero, suc, ◌+◌, ◌≤◌, min, List, [], ◌∷◌, length, Bool, true, false, Option, Some, None, slice_get, arith}
 use Rattle.object_heap.specs.declared.value.Value.{Value}
-use Rattle.object_heap.specs.declared.value.Value.TheVariants as value
 use Rattle.object_heap.specs.Charges.{closure_made}
 use Rattle.st_code.specs.declared.instruction.Variable.{Variable}
 use Rattle.st_code.specs.declared.instruction.Variable.TheVariants as variable
@@ -13,7 +12,7 @@ use Rattle.st_contexts.specs.declared.activation.Activation.TheVariants as act
 use Rattle.st_contexts.specs.declared.activation.Frame.{Frame}
 use Rattle.st_contexts.specs.Stack.{Stack, top_kept, top_value, value_popped, stands_in}
 use Rattle.st_rules.specs.Flat.{code_at}
-use Rattle.st_machine.specs.Instructions.{variable_read, variable_written, closure_of, block_delivered, arguments_taken, operand_dropped, leaves_home, performed, counted, next_performed, instructed_at, instructed}
+use Rattle.st_machine.specs.Instructions.{variable_written, closure_of, block_delivered, operand_dropped, leaves_home, performed, counted, next_performed, instructed_at, instructed}
 use Rattle.st_machine.specs.Operands.{taken}
 use Rattle.st_machine.specs.Scopes.{if_room}
 use Rattle.st_machine.specs.Seen.{Seen, with_memory}

@@ -1,5 +1,5 @@
 -- What each step of a machine keeps: values that are passed on have room, and a loop that is to be visited stands well.
-use Rattle.std.proofs.Common.{◌≡◌, ℕ, ◌≤◌, List, [], ◌∷◌, length, Bool, true, false, Option, Some, None, refl, arith}
+use Rattle.std.proofs.Common.{ℕ, List, [], ◌∷◌, Bool, true, false, Option, Some, None, arith}
 use Rattle.object_heap.specs.declared.value.Value.{Value}
 use Rattle.object_heap.specs.Store.{Store}
 use Rattle.st_collections.specs.Kinds.{is_true}
@@ -23,7 +23,7 @@ use Rattle.st_machine.specs.declared.work.Work.TheVariants as work
 use Rattle.st_machine.specs.Initializers.{target_on, kept_at, value_kept}
 use Rattle.st_machine.specs.Opening.{has_place, stood, stopped}
 use Rattle.st_machine.specs.Seen.{Seen, with_mode}
-use Rattle.st_machine.specs.Settling.{receiver_again, signaled_instead, at_protect, at_outer, search_of, searching, pointed, asked, judged, without_top, protected_by, signaled_by, answered_by, unwound_by, settled}
+use Rattle.st_machine.specs.Settling.{receiver_again, signaled_instead, at_protect, at_outer, search_of, searching, asked, without_top, protected_by, signaled_by, answered_by, unwound_by, settled}
 use Rattle.st_machine.specs.Steps.{advanced}
 use Rattle.st_machine_laws.proofs.Settling.{with}
 use Rattle.st_sound.specs.SoundActions.{LoopStands}

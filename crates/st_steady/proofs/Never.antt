@@ -1,5 +1,5 @@
 -- At each moment of a machine's run the store is sound for what comes next, so the machine never strands.
-use Rattle.std.proofs.Common.{◌≡◌, ℕ, zero, suc, ◌+◌, ◌≤◌, List, [], ◌∷◌, ◌++◌, length, true, refl, ap, sym, ◌∙◌, subst, arith}
+use Rattle.std.proofs.Common.{◌≡◌, ℕ, zero, suc, ◌+◌, List, [], ◌∷◌, ◌++◌, length, true, refl, ap, sym, ◌∙◌, subst, arith}
 use Rattle.object_heap.specs.declared.value.Value.{Value}
 use Rattle.object_heap.specs.Charges.{Memory}
 use Rattle.object_heap.specs.Store.{Store}
@@ -18,7 +18,6 @@ use Rattle.st_rules.specs.Compilable.{Compilable}
 use Rattle.st_rules.specs.Events.{Event}
 use Rattle.st_rules.specs.Flat.{FlatBody, flat, greatest_width}
 use Rattle.st_rules.specs.Flattened.{flat_of}
-use Rattle.st_rules.specs.Machine.{Bodies}
 use Rattle.st_rules.specs.Objects.{KnowsLiterals}
 use Rattle.st_rules.specs.Runs as rules
 use Rattle.st_rules.specs.Runs.{first_state}
@@ -26,7 +25,7 @@ use Rattle.st_rules.specs.SameRun.{IsTheRun}
 use Rattle.st_rules.specs.Selves.{IsOf, KnowsClasses}
 use Rattle.st_rules.specs.Sends.{send_action, super_action}
 use Rattle.st_rules.specs.State.{State}
-use Rattle.st_rules.specs.Turns.{Top, Ended, open_next, opened_run, top_iter, instructions}
+use Rattle.st_rules.specs.Turns.{Top, Ended, open_next, opened_run, top_iter}
 use Rattle.st_rules.proofs.KnownClasses.{programs_know_classes}
 use Rattle.st_rules.proofs.KnownProgram.{programs_know_literals}
 use Rattle.st_rules.proofs.NeverStuck.{rules_never_stuck}
@@ -129,7 +128,7 @@ module _ (found : FoundIsReady) (super_found : SuperFoundIsReady) (stand : Sends
 
     module _ (i : ℕ) (tr : Text) (ev : List Event) where
       room_at : (s : Seen) → Holds (at plan i) s → Roomy (P plan) s.passed.room
-      room_at s h = subst (λ n. Roomy (P plan) n) (sym h.firm.arguments) room
+      room_at s h = subst (λ n. Roomy (P plan) n) (sym (h.firm.arguments ∙ ap room_in h.firm.same)) room
 
       sends : (selector : ℕ) (receiver : Value) (s : Seen) → Holds (at plan i) s → Kept s → StateSound (P plan) (state_of tr ev s) → Takes (P plan) selector (length s.passed.values) → IsSent (send_is_sound selector receiver s) (send_of selector receiver s) s
       sends selector receiver s h k sound takes =

@@ -1,22 +1,16 @@
 -- A step passes on no more values than there is room for; and only a loop that stands innermost comes to be visited.
-use Rattle.std.proofs.Common.{◌≡◌, ℕ, zero, suc, ◌+◌, ◌≤◌, max, min, List, [], ◌∷◌, length, Bool, true, false, Option, Some, None, nat_le, nat_lt, nat_eq, slice_get, if◌then◌else◌, refl, ap, ◌∙◌, arith}
+use Rattle.std.proofs.Common.{◌≡◌, ℕ, ◌+◌, ◌≤◌, max, List, [], ◌∷◌, length, Bool, true, false, Option, Some, None, nat_le, nat_lt, nat_eq, slice_get, if◌then◌else◌, refl, arith}
 use Rattle.std.proofs.lemmas.Bool.{leb-true, ltb-true}
 use Rattle.object_heap.specs.declared.value.Value.{Value}
 use Rattle.object_heap.specs.declared.value.Value.TheVariants as value
 use Rattle.object_heap.specs.declared.value.Closure.{Closure}
-use Rattle.object_heap.specs.declared.trouble.Trouble.{Trouble}
 use Rattle.object_heap.specs.declared.trouble.Trouble.TheVariants as trouble
-use Rattle.object_heap.specs.Charges.{scope_charge, scope_made, closure_made}
-use Rattle.st_code.specs.declared.instruction.Variable.{Variable}
-use Rattle.st_code.specs.declared.instruction.Variable.TheVariants as variable
-use Rattle.st_code.specs.declared.instruction.Instruction.{Instruction}
-use Rattle.st_code.specs.declared.instruction.Instruction.TheVariants as instruction
-use Rattle.st_code.specs.BuiltIns.{array_class, message_class, block_class, error_class, zero_divide_class}
+use Rattle.object_heap.specs.Charges.{scope_charge, scope_made}
+use Rattle.st_code.specs.BuiltIns.{array_class, message_class, error_class, zero_divide_class}
 use Rattle.st_code.specs.Lookup.{is_exception}
 use Rattle.st_code.specs.Messages.{Control}
 use Rattle.st_collections.specs.declared.answer.Built.{Built}
 use Rattle.st_collections.specs.Actions.{Action, Gives, Changes, Makes, Fails, PassesIntegers, DividesByZero, Writes, Begins, Activates, Sends, Misses, Enters, Guards, Ensures, Curtails, Iterates, Raises, RaisesNew, Controls, Terminates, LoopState as State, Visit, Applies, Compares, Finishes, Lacks, Charges}
-use Rattle.st_collections.specs.Kinds.{is_true}
 use Rattle.st_collections.specs.Loops.{first_visit, next_visit}
 use Rattle.st_compiler.specs.declared.units.Initializer.{Initializer}
 use Rattle.st_contexts.specs.declared.activation.Activation.{Activation}
@@ -26,21 +20,14 @@ use Rattle.st_contexts.specs.declared.activation.Env.{Env}
 use Rattle.st_contexts.specs.declared.activation.Frame.{Frame}
 use Rattle.st_contexts.specs.declared.activation.Turn.{Turn}
 use Rattle.st_contexts.specs.declared.activation.SearchState.{SearchState}
-use Rattle.st_contexts.specs.declared.activation.Purpose.TheVariants as purpose
 use Rattle.st_contexts.specs.declared.activation.Wait.{Wait}
-use Rattle.st_contexts.specs.declared.activation.Wait.TheVariants as wait
-use Rattle.st_contexts.specs.declared.outcome.Outcome.{Outcome}
-use Rattle.st_contexts.specs.declared.outcome.Outcome.TheVariants as outcome
-use Rattle.st_contexts.specs.declared.outcome.Target.{Target}
-use Rattle.st_contexts.specs.declared.outcome.Target.TheVariants as target
 use Rattle.st_contexts.specs.declared.outcome.Limit.TheVariants as limit
-use Rattle.st_contexts.specs.Stack.{Stack, entry_in, pushed, popped, top_kept, top_value, value_popped, stands_in, with_kept}
-use Rattle.st_loops.specs.declared.state.LoopState.{LoopState}
+use Rattle.st_contexts.specs.Stack.{entry_in, pushed}
 use Rattle.st_loops.specs.States.{state_of}
 use Rattle.st_loops.specs.Steps.{Seen as Step, Next, Full, Out, told_of, memory_after as memory_paid}
 use Rattle.st_messages.specs.Replies.{Seen as Said, Answered, Raised, GoesOn, told_by, memory_after}
 use Rattle.st_rules.specs.Flat.{code_at}
-use Rattle.st_rules.specs.Rules.{sends_equal, sends_not_understood, sends_handles, sends_default_action, sends_is_resumable}
+use Rattle.st_rules.specs.Rules.{sends_equal, sends_not_understood, sends_handles}
 use Rattle.st_rules.specs.State.{count_true}
 use Rattle.st_machine.specs.declared.opening.Opening.{Opening}
 use Rattle.st_machine.specs.declared.work.Ending.TheVariants as ending
@@ -48,21 +35,19 @@ use Rattle.st_machine.specs.declared.work.Mode.{Mode}
 use Rattle.st_machine.specs.declared.work.Mode.TheVariants as mode
 use Rattle.st_machine.specs.declared.work.Work.{Work}
 use Rattle.st_machine.specs.declared.work.Work.TheVariants as work
-use Rattle.st_machine.specs.Controls.{resignaled, resignaled_as, controlled_by, controlled_without, controlled_in, controlled_at, controlled}
+use Rattle.st_machine.specs.Controls.{resignaled, resignaled_as, controlled_by, controlled_without, controlled_in, controlled_at}
 use Rattle.st_machine.specs.Initializers.{opened_by, next_opened, counted}
-use Rattle.st_machine.specs.Instructions as instructed
-use Rattle.st_machine.specs.Loops.{visit_made, loop_stepped, visited_by, standing_so, no_loop, loop_begins, loop_goes_on, iterated_by, iterated, given_by, visited}
-use Rattle.st_machine.specs.Opening.{has_place, stood, has_step, stepped, stopped, beginning, frame_for, captured_in, own_furnished, scope_furnished, furnished_with, furnished, opened, block_opening, activated, entered, closure_in, fitting, apply_work, applied}
-use Rattle.st_machine.specs.Operands.{taken}
-use Rattle.st_machine.specs.Passing.{fits_in, passing_on}
-use Rattle.st_machine.specs.Performing.{message_sent, message_slots, message_made, missed, guarded, answered_so, gone_on, said, performed}
+use Rattle.st_machine.specs.Loops.{visit_made, loop_stepped, visited_by, standing_so, no_loop, loop_begins, loop_goes_on, iterated_by, given_by}
+use Rattle.st_machine.specs.Opening.{has_place, stood, has_step, stepped, stopped, beginning, frame_for, captured_in, own_furnished, scope_furnished, furnished_with, furnished, opened, block_opening, activated, entered, closure_in, fitting, apply_work}
+use Rattle.st_machine.specs.Passing.{passing_on}
+use Rattle.st_machine.specs.Performing.{message_sent, message_slots, message_made, guarded, answered_so, gone_on, said, performed}
 use Rattle.st_machine.specs.Plans.{program_in}
 use Rattle.st_machine.specs.Scopes.{if_room}
-use Rattle.st_machine.specs.Searches.{one_passed, sending, sending_one, inquired, fits_here, plain_here, examined_by, searched_at, searched, turn_for, asks_nested, handler_of, handler_begun, nothing_passed, handler_applied, handled, defaulted, turned_at, turned_by, turned, resumability_asked}
-use Rattle.st_machine.specs.Seen.{Passed, Seen, with_stack, with_memory, with_variables, with_passed, passing}
-use Rattle.st_machine.specs.Sending.{sent_by, acted, send_of, super_send_of, value_in, send_is_sound, super_send_is_sound, sent, super_sent, value_sent}
-use Rattle.st_machine.specs.Settling.{receiver_again, signaled_instead, at_protect, at_outer, search_of, searching, pointed, asked, judged, without_top, protected_by, signaled_by, answered_by, unwound_by, ended}
-use Rattle.st_machine.specs.Signals.{raised_by, raised, text_in, slots_in, if_object, exception_made, signal_made, new_signal, raised_new, failed}
+use Rattle.st_machine.specs.Searches.{one_passed, sending_one, inquired, fits_here, plain_here, examined_by, searched_at, turn_for, asks_nested, handler_of, handler_begun, nothing_passed, handler_applied, turned_at, turned_by, resumability_asked}
+use Rattle.st_machine.specs.Seen.{Passed, Seen, with_memory, with_passed, passing}
+use Rattle.st_machine.specs.Sending.{sent_by, acted, send_of, super_send_of, value_in, send_is_sound, super_send_is_sound, sent}
+use Rattle.st_machine.specs.Settling.{judged, ended}
+use Rattle.st_machine.specs.Signals.{raised_by, text_in, slots_in, if_object, exception_made, signal_made, new_signal}
 use Rattle.st_machine.specs.Works.{begun}
 use Rattle.signal_env.specs.declared.turns.FoundTurn.{FoundTurn}
 use Rattle.signal_env.specs.Turns.{turn_in, live_in}

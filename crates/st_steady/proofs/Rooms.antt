@@ -1,11 +1,10 @@
 -- There is room for the values that a message passes on.
-use Rattle.std.proofs.Common.{◌≡◌, ℕ, zero, suc, ◌+◌, ◌≤◌, max, min, List, [], ◌∷◌, length, get_or, Bool, true, false, None, ◌&&◌, nat_le, inl, inr, refl, ap, sym, ◌∙◌, subst, arith, le-leb}
-use Rattle.object_heap.specs.declared.value.Value.{Value}
+use Rattle.std.proofs.Common.{◌≡◌, ℕ, zero, suc, ◌≤◌, List, [], ◌∷◌, length, get_or, Bool, true, None, ◌&&◌, nat_le, refl, sym, subst, arith, le-leb}
 use Rattle.object_heap.specs.declared.value.Value.TheVariants.{Nil}
 use Rattle.object_heap.specs.Store.{Store}
-use Rattle.st_code.specs.Compiled.{Compiled, compiled_body, compiled_from, compile_of}
+use Rattle.st_code.specs.Compiled.{compiled_body, compiled_from, compile_of}
 use Rattle.st_code.specs.Program.{Program, Body, InBlock, body_at, name_at}
-use Rattle.st_code.specs.Texts.{Text, arity, is_keywords, is_operators, count_byte}
+use Rattle.st_code.specs.Texts.{Text, arity, is_keywords, is_operators}
 use Rattle.st_collections.specs.Actions.{Action, Gives, Changes, Makes, Fails, PassesIntegers, DividesByZero, Writes, Begins, Activates, Sends, Misses, Enters, Guards, Ensures, Curtails, Iterates, Raises, RaisesNew, Controls, Terminates, LoopState}
 use Rattle.st_loops.specs.Tests.{may_begin}
 use Rattle.st_machine.specs.Plans.{greatest_arity, greatest_parameters, program_in, room_in}
