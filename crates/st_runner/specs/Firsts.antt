@@ -1,5 +1,5 @@
 -- A machine at the beginning of a run that it can make whole.
-use Rattle.std.specs.Prelude.{◌≡◌, ℕ, ◌-◌, ◌^◌, ◌<◌, ◌≤◌, List}
+use Rattle.std.specs.Prelude.{◌≡◌, ◌-◌, ◌^◌, ◌<◌, ◌≤◌, List}
 use Rattle.st_base.specs.declared.faults.Limits.{Limits}
 use Rattle.st_tree.specs.declared.units.Unit.{Unit}
 use Rattle.st_tree.specs.Numbers.{elements_in}

@@ -1,6 +1,6 @@
 // How a machine is run to its end.
-ghost use Rattle.std.specs.Prelude.{◌≡◌, IfOk, OnErr};
-ghost use Rattle.st_base.specs.Streams.{HasCause};
+ghost use Rattle.std.specs.Prelude.{◌≡◌, IfOk, OnErr, OnOk};
+ghost use Rattle.st_base.specs.Streams.{Rose};
 ghost use Rattle.st_machine.specs.declared.work.Mode.TheVariants.{Ended};
 ghost use Rattle.st_machine.specs.Meaning.{ending_of};
 ghost use Rattle.st_machine.specs.Plans.{program_in};
@@ -19,7 +19,8 @@ pub fn run_to_end<H: Heap, K: Sink>(machine: &mut Machine<H>, out: &mut K) -> Re
     ensures ends { IfOk result (λ ending. EndsAs (program_in machine.old.plan) (ending_of ending) machine.new (K.written out.old) (K.written out.new)) }
     ensures mode { IfOk result (λ ending. machine.new.mode ≡ Ended ending) }
     ensures stops { OnErr result (StopsAs (program_in machine.old.plan) (K.written out.old) (K.written out.new)) }
-    ensures cause { HasCause (K.faults out.old) (K.faults out.new) result }
+    ensures kept { OnOk result (K.faults out.new ≡ K.faults out.old) }
+    ensures cause { OnErr result (Rose (K.faults out.old) (K.faults out.new)) }
 {
     loop {
         match machine.go(u64::MAX, out) {

@@ -1,6 +1,5 @@
 -- Why the selectors are counted: the lemmas of Counts.antt.
-use Rattle.std.proofs.Common.{◌≡◌, ◌∙◌, ap, sym, arith}
-use Rattle.st_opening.specs.Opened.{are_counted}
+use Rattle.std.proofs.Common.{◌∙◌, sym, arith}
 use Rattle.st_opening.proofs.Counts.{counted-less, counted-more}
 use Rattle.st_opening.proofs.opened.are_counted.Goals as goal
 
