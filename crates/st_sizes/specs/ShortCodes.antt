@@ -12,7 +12,7 @@ use Rattle.st_code.specs.Compiled.{Compiled, compile_of}
 abbrev pub codes_of : (names : List Text) → List Unit → RunLimits → List Compiled
 codes_of names units limits = compile_of (program_of names (named_units units) limits)
 
--- a code grows with the targets, messages, statements and primaries of the unit that it is written in
+-- where no body has more than so many targets, messages, statements and primaries, those of its blocks among them, no code is longer than this
 abbrev pub CodesGrowWithBodies : Type 0
 CodesGrowWithBodies = (names : List Text) (units : List Unit) (limits : RunLimits) (most : ℕ) → IsReadable units → All (λ u. moves_of u.kind ≤ most) units → All (λ c. length c.instructions ≤ 3 * most + 2) (codes_of names units limits)
 
