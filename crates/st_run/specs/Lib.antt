@@ -1,3 +1,4 @@
+pub mod Reports
+pub mod Outcomes
 pub mod Commands
 pub mod Headline
-pub mod Written

@@ -3,8 +3,9 @@
 #![tactic(auto)]
 
 mod finish;
+mod generating;
 mod report;
-mod tasks;
+mod running;
 mod top;
 
 pub use finish::report_want_of_memory;

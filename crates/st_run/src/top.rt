@@ -7,11 +7,41 @@ ghost use Rattle.st_run.specs.Headline.{Calls, IsDone, IsReported, StopsIn};
 
 use crate::finish::{judge, refuse, report_usage, report_want_of_memory, tell};
 use crate::report::READ_FAULT;
-use crate::tasks::command_of;
-use sif_elements::reading::{ReadAnswer, read_definition};
-use st_base::{Sink, Source};
-use st_words::Command;
+use sif_chunks::Appendix;
+use sif_elements::reading::{ReadAnswer, read_file};
+use st_base::{OutOfMemory, Sink, Source};
+use st_gen::generated;
+use st_words::{Command, Task, command_of};
 use std::alloc::Global;
+
+// What stands behind the input of a command.
+fn behind(alloc: Global, command: Command) -> Result<Vec<u8>, OutOfMemory> {
+    match command.task {
+        Task::Gen => generated(alloc, command.seed, command.size),
+        _ => Ok(Vec::new(alloc)),
+    }
+}
+
+// Reads a program, with these bytes behind it, and does what a command asks for.
+fn obey_with<S: Source, K: Sink, E: Sink>(
+    alloc: Global,
+    command: Command,
+    behind: &[u8],
+    source: &mut S,
+    out: &mut K,
+    report: &mut E,
+) -> u8 {
+    let mut appendix = Appendix::new(behind);
+    let read = read_file(alloc, source, &mut appendix);
+    match read.answer {
+        ReadAnswer::Read(definition) => {
+            judge(alloc, command, read.bytes, definition, out, report)
+        }
+        ReadAnswer::Refused(place, reason) => refuse(alloc, place, reason, report),
+        ReadAnswer::ReadFault => tell(report, READ_FAULT, 8),
+        ReadAnswer::OutOfMemory => report_want_of_memory(report),
+    }
+}
 
 // Reads a program, and does what a command asks for.
 fn obey<S: Source, K: Sink, E: Sink>(
@@ -20,15 +50,10 @@ fn obey<S: Source, K: Sink, E: Sink>(
     source: &mut S,
     out: &mut K,
     report: &mut E,
-) -> u8
-    ensures { Calls (Some command) (S.left source.old) (S.left source.new) (Rose (S.faults source.old) (S.faults source.new)) (Rose (K.faults out.old) (K.faults out.new)) (Rose (E.faults report.old) (E.faults report.new))
-        (K.written out.old) (K.written out.new) (E.written report.old) (E.written report.new) result }
-{
-    match read_definition(alloc, source) {
-        ReadAnswer::Read(definition) => judge(alloc, command.task, definition, out, report),
-        ReadAnswer::Refused(place, reason) => refuse(alloc, place, reason, report),
-        ReadAnswer::ReadFault => tell(report, READ_FAULT, 8),
-        ReadAnswer::OutOfMemory => report_want_of_memory(report),
+) -> u8 {
+    match behind(alloc, command) {
+        Ok(lines) => obey_with(alloc, command, lines.as_slice(), source, out, report),
+        Err(_) => report_want_of_memory(report),
     }
 }
 

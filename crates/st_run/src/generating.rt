@@ -1,0 +1,108 @@
+// What `gen` does with a program: it runs, and a line says what came of it.
+use crate::finish::report_want_of_memory;
+use crate::running::report_ending;
+use cell_heap::CellHeap;
+use st_base::{OutOfMemory, Sink, put_all};
+use st_gen::{Kept, gen_line};
+use st_machine::{Ending, Machine};
+use st_opening::open;
+use st_runner::run_to_end;
+use st_tree::units::Definition;
+use st_words::Command;
+use std::alloc::Global;
+
+/// How many units and bytes a file has.
+#[derive(Clone, Copy)]
+pub(crate) struct Size {
+    pub(crate) units: usize,
+    pub(crate) bytes: usize,
+}
+
+// The line of a run that is done, and nothing of any other.
+fn summary(
+    alloc: Global,
+    machine: &Machine<CellHeap>,
+    ending: Ending,
+    size: Size,
+    transcript: usize,
+) -> Result<Vec<u8>, OutOfMemory> {
+    match ending {
+        Ending::Done => gen_line(
+            alloc,
+            size.units,
+            size.bytes,
+            transcript,
+            machine.stats().steps,
+        ),
+        _ => Ok(Vec::new(alloc)),
+    }
+}
+
+// Writes the line of a run, and reports its end.
+fn write_summary<K: Sink, E: Sink>(
+    machine: &Machine<CellHeap>,
+    command: Command,
+    ending: Ending,
+    line: &[u8],
+    out: &mut K,
+    report: &mut E,
+) -> u8 {
+    match put_all(out, line) {
+        Ok(()) => report_ending(machine, command, ending, report),
+        Err(_) => 9,
+    }
+}
+
+// Tells what came of a run whose Transcript was kept.
+fn summarize<K: Sink, E: Sink>(
+    alloc: Global,
+    machine: &Machine<CellHeap>,
+    command: Command,
+    ending: Ending,
+    size: Size,
+    transcript: usize,
+    out: &mut K,
+    report: &mut E,
+) -> u8 {
+    match summary(alloc, machine, ending, size, transcript) {
+        Ok(line) => write_summary(machine, command, ending, line.as_slice(), out, report),
+        Err(_) => report_want_of_memory(report),
+    }
+}
+
+// Runs a machine, and keeps its Transcript.
+fn run_kept<K: Sink, E: Sink>(
+    alloc: Global,
+    mut machine: Machine<CellHeap>,
+    command: Command,
+    size: Size,
+    out: &mut K,
+    report: &mut E,
+) -> u8 {
+    let mut kept = Kept::new(alloc);
+    match run_to_end(&mut machine, &mut kept) {
+        Ok(ending) => {
+            summarize(alloc, &machine, command, ending, size, kept.count(), out, report)
+        }
+        Err(_) => report_want_of_memory(report),
+    }
+}
+
+/// Runs a program that meets the static rules, of a file of so many bytes.
+pub(crate) fn generate<K: Sink, E: Sink>(
+    alloc: Global,
+    command: Command,
+    bytes: usize,
+    definition: Definition,
+    out: &mut K,
+    report: &mut E,
+) -> u8 {
+    let size = Size {
+        units: definition.units.len(),
+        bytes,
+    };
+    match open(alloc, definition, command.limits) {
+        Ok(machine) => run_kept(alloc, machine, command, size, out, report),
+        Err(_) => report_want_of_memory(report),
+    }
+}
