@@ -1,1 +1,6 @@
 pub mod CallLemmas
+pub mod OneOutcome
+pub mod RunLemmas
+pub mod SomeOutcome
+pub mod StandIn
+pub mod StatsLemmas

@@ -5,7 +5,7 @@ use Rattle.st_base.specs.Streams.{GainsPrefix}
 use Rattle.sif_elements.specs.Answered.{LeavesOpen}
 use Rattle.st_words.specs.declared.command.Command.{Command}
 use Rattle.st_run.specs.Reports.{read_fault_line, memory_line}
-use Rattle.st_run.specs.Outcomes.{Outcome}
+use Rattle.st_run.specs.Outcomes.{Outcome, IsEnding}
 use Rattle.st_run.specs.Commands.{Does, Reads, file_of, behind}
 
 -- the output and the report of an outcome were written, and its status answered
@@ -23,7 +23,7 @@ pub record IsReported (line : List ℕ) (out out' report report' : Option (List 
 pub record StaysOpen (c : Command) (bytes : List ℕ) (left : Option (List ℕ)) : Type 0 where
   pub behind_left : List ℕ
   pub plain : behind c ≡ [] → behind_left ≡ []
-  pub open : LeavesOpen (file_of c bytes) (append_known left behind_left)
+  pub opens : LeavesOpen (file_of c bytes) (append_known left behind_left)
 
 abbrev pub LeftOpen : Option Command → List ℕ → Option (List ℕ) → Type 0
 LeftOpen None bytes left = ⊥
@@ -58,7 +58,7 @@ DoesTold (Some c) left o = IfSome left (λ bytes. Does (Some c) bytes o)
 -- how a call ends: with its outcome, whether its bytes are told or not; for want of memory; or with a read fault
 pub data Calls (command : Option Command) (left left' : Option (List ℕ)) (read written told : Type 0) (out out' report report' : Option (List ℕ)) (status : ℕ) : Type 0 where
   finishes : (outcome : Outcome) → Finishes outcome written told out out' report report' status → DoesTold command left outcome
-      → (status ≡ 0 → IfSome left' (λ bytes. bytes ≡ [])) → Calls command left left' read written told out out' report report' status
+      → (IsEnding status → IfSome left' (λ bytes. bytes ≡ [])) → Calls command left left' read written told out out' report report' status
   lacks : ((outcome : Outcome) → Finishes outcome written told out out' report report' status) → (status ≡ 9) ⊎ (status ≡ 10) → Calls command left left' read written told out out' report report' status
   fails : status ≡ 8 → IsReported read_fault_line out out' report report' → read → Reads command → IfSome left (λ bytes. LeftOpen command bytes left')
       → Calls command left left' read written told out out' report report' status

@@ -2,3 +2,5 @@ pub mod Reports
 pub mod Outcomes
 pub mod Commands
 pub mod Headline
+pub mod StandIn
+pub mod Told

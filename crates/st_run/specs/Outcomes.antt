@@ -53,10 +53,13 @@ ending_status Stuck = 3
 abbrev pub transcript : Ending → State → List ℕ
 transcript e st = st.transcript
 
--- `gen` writes a line of a run that is done, of a file of so many bytes
+-- `gen` writes a line of a run that is done, and nothing of any other
+abbrev pub line_of : (units bytes transcript steps : ℕ) → Ending → List ℕ
+line_of units bytes transcript steps Done = gen_line units bytes transcript steps
+line_of units bytes transcript steps e = []
+
 abbrev pub summary : List unit.Unit → (bytes : ℕ) → Ending → State → List ℕ
-summary us bytes Done st = gen_line (length us) bytes (length st.transcript) st.steps
-summary us bytes e st = []
+summary us bytes e st = line_of (length us) bytes (length st.transcript) st.steps e
 
 -- what comes of a run that ended so, in this state and after so many instructions
 abbrev pub ended : Command → List unit.Unit → Ending → State → (instructions : ℕ) → (output : List ℕ) → Outcome

@@ -1,12 +1,15 @@
 // The ends of a call: what is written, and the status.
-ghost use Rattle.std.specs.Prelude.{◌≡◌, ◌≢◌, ◌⊎◌, ◌<◌, ◌^◌, ◌-◌, ℕ, List, [], Option, None};
+ghost use Rattle.std.specs.Prelude.{◌≡◌, ◌≢◌, ◌⊎◌, ◌<◌, ◌^◌, ◌-◌, ℕ, List, Option, IfOk};
 ghost use Rattle.std.specs.Io.KnownBytes.{append_known};
 ghost use Rattle.st_base.specs.Streams.{Rose, GainsPrefix};
 ghost use Rattle.st_tree.specs.Numbers.{elements_in};
+ghost use Rattle.st_tree.specs.Units.{IsReadable};
 ghost use Rattle.sif_export.specs.ExportText.{export_text};
-ghost use Rattle.st_checks.specs.StaticRules.{first_break};
-ghost use Rattle.st_run.specs.Commands.{Outcome, usage_line, done, refused, unbuilt, of_rules, of_units, does};
-ghost use Rattle.st_run.specs.Headline.{Finishes, IsReported};
+ghost use Rattle.st_checks.specs.StaticRules.{first_break, MeetsRules};
+ghost use Rattle.st_words.specs.CommandLine.{IsInBounds};
+ghost use Rattle.st_run.specs.Outcomes.{Outcome, done, refused, usage, OfTask};
+ghost use Rattle.st_run.specs.Commands.{OfRules};
+ghost use Rattle.st_run.specs.Headline.{EndsBy, Finishes};
 
 use crate::generating::generate;
 use crate::report::{OUT_OF_MEMORY, USAGE, refusal};
@@ -40,7 +43,7 @@ pub fn report_want_of_memory<E: Sink>(report: &mut E) -> u8
 
 /// Reports that the words are no command.
 pub(crate) fn report_usage<E: Sink>(report: &mut E) -> u8
-    ensures { (out : Option (List ℕ)) → Finishes (does None []) ⊥ (Rose (E.faults report.old) (E.faults report.new)) out out (E.written report.old) (E.written report.new) result }
+    ensures { (out : Option (List ℕ)) → Finishes usage ⊥ (Rose (E.faults report.old) (E.faults report.new)) out out (E.written report.old) (E.written report.new) result }
 {
     tell(report, USAGE, 2)
 }
@@ -80,7 +83,9 @@ fn write_made<K: Sink, E: Sink>(
     made: Result<Vec<u8>, OutOfMemory>,
     out: &mut K,
     report: &mut E,
-) -> u8 {
+) -> u8
+    ensures { (text : List ℕ) → IfOk made (λ bytes. bytes.items ≡ text) → Finishes (done text) (Rose (K.faults out.old) (K.faults out.new)) (Rose (E.faults report.old) (E.faults report.new)) (K.written out.old) (K.written out.new) (E.written report.old) (E.written report.new) result }
+{
     match made {
         Ok(bytes) => write_out(out, bytes.as_slice()),
         Err(_) => report_want_of_memory(report),
@@ -95,7 +100,13 @@ fn perform<K: Sink, E: Sink>(
     definition: Definition,
     out: &mut K,
     report: &mut E,
-) -> u8 {
+) -> u8
+    requires readable { IsReadable definition.units }
+    requires meets { MeetsRules definition.units }
+    requires few { elements_in definition.units < 2 ^ 32 - 1 }
+    requires bounds { IsInBounds command }
+    ensures { EndsBy (OfTask command.task command definition.units bytes) (Rose (K.faults out.old) (K.faults out.new)) (Rose (E.faults report.old) (E.faults report.new)) (K.written out.old) (K.written out.new) (E.written report.old) (E.written report.new) result }
+{
     match command.task {
         Task::Run => run(alloc, command, definition, out, report),
         Task::Check => write_made(ok_line(alloc, &definition), out, report),
@@ -114,10 +125,22 @@ pub(crate) fn judge<K: Sink, E: Sink>(
     definition: Definition,
     out: &mut K,
     report: &mut E,
-) -> u8 {
+) -> u8
+    requires readable { IsReadable definition.units }
+    requires few { elements_in definition.units < 2 ^ 32 - 1 }
+    requires bounds { IsInBounds command }
+    ensures { EndsBy (OfRules command definition.units bytes (first_break definition.units)) (Rose (K.faults out.old) (K.faults out.new)) (Rose (E.faults report.old) (E.faults report.new)) (K.written out.old) (K.written out.new) (E.written report.old) (E.written report.new) result }
+{
     match check(alloc, definition) {
         CheckAnswer::Checked(checked) => {
-            perform(alloc, command, bytes, checked.into_definition(), out, report)
+            perform(
+                alloc,
+                command,
+                bytes,
+                checked.into_definition(),
+                out,
+                report,
+            )
         }
         CheckAnswer::Refused(place, reason) => refuse(alloc, place, reason, report),
         CheckAnswer::OutOfMemory => report_want_of_memory(report),

@@ -1,12 +1,25 @@
 // What `gen` does with a program: it runs, and a line says what came of it.
+ghost use Rattle.std.specs.Prelude.{◌≡◌, ◌<◌, ◌-◌, ◌^◌, ℕ, List, length, IfOk};
+ghost use Rattle.st_base.specs.Streams.{Rose};
+ghost use Rattle.st_tree.specs.declared.units.Unit.{Unit};
+ghost use Rattle.st_tree.specs.Numbers.{elements_in};
+ghost use Rattle.st_tree.specs.Units.{IsReadable};
+ghost use Rattle.st_checks.specs.StaticRules.{MeetsRules};
+ghost use Rattle.st_words.specs.CommandLine.{IsInBounds};
+ghost use Rattle.st_machine.specs.Meaning.{ending_of};
+ghost use Rattle.st_machine.specs.Plans.{program_in};
+ghost use Rattle.st_run.specs.Outcomes.{line_of, program_for, summary, IsOfRun};
+ghost use Rattle.st_run.specs.Headline.{EndsBy};
+ghost use Rattle.st_run.specs.Told.{HasEnded};
+ghost use Rattle.st_run.specs.StandIn.{IsFirst};
+
 use crate::finish::report_want_of_memory;
 use crate::running::report_ending;
+use crate::stand_in::{open, run_to_end};
 use cell_heap::CellHeap;
 use st_base::{OutOfMemory, Sink, put_all};
 use st_gen::{Kept, gen_line};
 use st_machine::{Ending, Machine};
-use st_opening::open;
-use st_runner::run_to_end;
 use st_tree::units::Definition;
 use st_words::Command;
 use std::alloc::Global;
@@ -25,7 +38,9 @@ fn summary(
     ending: Ending,
     size: Size,
     transcript: usize,
-) -> Result<Vec<u8>, OutOfMemory> {
+) -> Result<Vec<u8>, OutOfMemory>
+    ensures { IfOk result (λ line. line.items ≡ line_of size.units size.bytes transcript machine.now.steps (ending_of ending)) }
+{
     match ending {
         Ending::Done => gen_line(
             alloc,
@@ -46,7 +61,9 @@ fn write_summary<K: Sink, E: Sink>(
     line: &[u8],
     out: &mut K,
     report: &mut E,
-) -> u8 {
+) -> u8
+    ensures { (units : List Unit) (bytes transcript : ℕ) → HasEnded command units machine.now ending transcript → line.now ≡ line_of (length units) bytes transcript machine.now.steps (ending_of ending) → EndsBy (IsOfRun command units (summary units bytes)) (Rose (K.faults out.old) (K.faults out.new)) (Rose (E.faults report.old) (E.faults report.new)) (K.written out.old) (K.written out.new) (E.written report.old) (E.written report.new) result }
+{
     match put_all(out, line) {
         Ok(()) => report_ending(machine, command, ending, report),
         Err(_) => 9,
@@ -63,7 +80,9 @@ fn summarize<K: Sink, E: Sink>(
     transcript: usize,
     out: &mut K,
     report: &mut E,
-) -> u8 {
+) -> u8
+    ensures { (units : List Unit) → size.units ≡ length units → HasEnded command units machine.now ending transcript → EndsBy (IsOfRun command units (summary units size.bytes)) (Rose (K.faults out.old) (K.faults out.new)) (Rose (E.faults report.old) (E.faults report.new)) (K.written out.old) (K.written out.new) (E.written report.old) (E.written report.new) result }
+{
     match summary(alloc, machine, ending, size, transcript) {
         Ok(line) => write_summary(machine, command, ending, line.as_slice(), out, report),
         Err(_) => report_want_of_memory(report),
@@ -78,11 +97,23 @@ fn run_kept<K: Sink, E: Sink>(
     size: Size,
     out: &mut K,
     report: &mut E,
-) -> u8 {
+) -> u8
+    requires { IsFirst machine }
+    ensures { (units : List Unit) → size.units ≡ length units → program_in machine.plan ≡ program_for command units → EndsBy (IsOfRun command units (summary units size.bytes)) (Rose (K.faults out.old) (K.faults out.new)) (Rose (E.faults report.old) (E.faults report.new)) (K.written out.old) (K.written out.new) (E.written report.old) (E.written report.new) result }
+{
     let mut kept = Kept::new(alloc);
     match run_to_end(&mut machine, &mut kept) {
         Ok(ending) => {
-            summarize(alloc, &machine, command, ending, size, kept.count(), out, report)
+            summarize(
+                alloc,
+                &machine,
+                command,
+                ending,
+                size,
+                kept.count(),
+                out,
+                report,
+            )
         }
         Err(_) => report_want_of_memory(report),
     }
@@ -96,7 +127,13 @@ pub(crate) fn generate<K: Sink, E: Sink>(
     definition: Definition,
     out: &mut K,
     report: &mut E,
-) -> u8 {
+) -> u8
+    requires readable { IsReadable definition.units }
+    requires meets { MeetsRules definition.units }
+    requires few { elements_in definition.units < 2 ^ 32 - 1 }
+    requires bounds { IsInBounds command }
+    ensures { EndsBy (IsOfRun command definition.units (summary definition.units bytes)) (Rose (K.faults out.old) (K.faults out.new)) (Rose (E.faults report.old) (E.faults report.new)) (K.written out.old) (K.written out.new) (E.written report.old) (E.written report.new) result }
+{
     let size = Size {
         units: definition.units.len(),
         bytes,

@@ -4,11 +4,14 @@
 
 mod finish;
 mod generating;
+mod law;
 mod report;
 mod running;
+mod stand_in;
 mod top;
 
 pub use finish::report_want_of_memory;
+pub use law::each_command_has_one_outcome;
 pub use top::stx;
 
 #[cfg(test)]
