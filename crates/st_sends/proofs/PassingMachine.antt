@@ -168,7 +168,7 @@ module _ (p : Program) where
   perform_fits n PassesIntegers env acts st r f = r
   perform_fits n (Begins v args) env acts st r f = (f, r)
   perform_fits n (Activates c args) env acts st r f = (f, r)
-  perform_fits n (Sends selector x args) env acts st r f = (f, r)
+  perform_fits n (Sends selector x args) env acts st r f = (f.0, r)
   perform_fits n (Misses selector x args) env acts st r f = missed_fits selector x args env acts st r
   perform_fits n (Enters code x args) env acts st r f = (tt, r)
   perform_fits n (Guards receiver selector handler) env acts st r f = stood_fits (M acts) st _ _ r (λ d k. (tt, r))

@@ -96,7 +96,7 @@ module _ (p : Program) (s : Store) (n : ℕ) where
   copied_passes o (Some closure) = record { passes = tt }
 
   display_passes : (o : Option Text) (r : Value) → Passes (elim o [ Some bytes ↦ makes_string bytes s | None ↦ Sends (number_of p (codes "printString")) r [] ])
-  display_passes None r = record { passes = print_takes p }
+  display_passes None r = record { passes = (print_takes p, omega arith) }
   display_passes (Some bytes) r = string_passes bytes
 
   kind_passes : (i : Indexed) (a b c : Action) → Passes a → Passes b → Passes c → Passes (elim i [ NoIndexes ↦ a | ByObject ↦ b | ByByte ↦ c ])
@@ -114,7 +114,9 @@ module _ (p : Program) (s : Store) (n : ℕ) where
   performs r name values = go (nat_eq (arity (name_at p name)) (length values)) refl
     where
       go : (b : Bool) → nat_eq (arity (name_at p name)) (length values) ≡ b → Passes (if b then Sends name r values else Fails trouble.WrongNumberOfArguments)
-      go true e = record { passes = inl (sym (eqb-true (arity (name_at p name)) (length values) e)) }
+      go true e =
+          let same : length values ≡ arity (name_at p name) = sym (eqb-true (arity (name_at p name)) (length values) e) in
+          record { passes = (inl same, omega (arith, same)) }
       go false e = record { passes = tt }
 
   abbrev performed : Value → Value → List Value → Action

@@ -27,11 +27,11 @@ pub record KnowsSelectors (p : Program) : Type 0 where
 abbrev pub IsShort : LoopState → Type 0
 IsShort l = length l.arguments ≤ 3
 
--- what an action passes on, where so many arguments came with its message
+-- what an action passes on, where so many arguments came with its message; to another send no more than its selector takes, also where the number names none
 abbrev pub ActionPasses : Program → ℕ → Action → Type 0
 ActionPasses p n (Begins v args) = length args ≤ 2
 ActionPasses p n (Activates c args) = length args ≡ (body_at p c.code).parameters
-ActionPasses p n (Sends selector r args) = Takes p selector (length args)
+ActionPasses p n (Sends selector r args) = Takes p selector (length args) × (length args ≤ arity (name_at p selector))
 ActionPasses p n (Enters code r args) = length args ≤ n
 ActionPasses p n (Iterates l) = IsShort l
 ActionPasses p n (RaisesNew class slots) = length slots ≤ max 3 n

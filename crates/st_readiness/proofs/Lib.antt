@@ -1,0 +1,2 @@
+pub mod ReadySends
+pub mod ReadyLoops
