@@ -2,7 +2,7 @@
 use Rattle.std.proofs.Common.{◌≡◌, ◌≢◌, ◌⊎◌, ◌∙◌, ◌≤◌, inl, inr, ℕ, ◌++◌, List, [], ◌∷◌, length, Option, None, Some, IfSome, refl, sym, ap, subst, arith}
 use Rattle.std.proofs.lemmas.List.{append-nil}
 use Rattle.std.proofs.lemmas.Bool.Decides.{eqb_tells}
-use Rattle.std.specs.Io.KnownBytes.{append_known, prepend_known}
+use Rattle.std.specs.Io.KnownBytes.{append_known}
 use Rattle.st_base.specs.declared.faults.Place.{Place}
 use Rattle.st_base.specs.declared.faults.Reason.{Reason}
 use Rattle.st_base.specs.Streams.{GainsPrefix}
@@ -11,15 +11,14 @@ use Rattle.sif_elements.specs.Answered.{LeavesOpen}
 use Rattle.sif_elements.specs.Reading.{Read, Refuse}
 use Rattle.sif_elements.specs.Steps.{reading}
 use Rattle.st_tree.specs.declared.units.Unit as unit
-use Rattle.st_checks.specs.StaticRules.{Break, broken, first_break}
+use Rattle.st_checks.specs.StaticRules.{broken, first_break}
 use Rattle.st_words.specs.declared.command.Command.{Command}
 use Rattle.st_words.specs.declared.command.Task.{Task}
-use Rattle.st_words.specs.declared.command.Task.TheVariants as task
 use Rattle.st_run.specs.Reports.{read_fault_line, memory_line}
 use Rattle.st_run.specs.Outcomes as Outcomes
 use Rattle.st_run.specs.Outcomes.{Outcome, refused, usage, OfTask, IsEnding, DoneBy}
-use Rattle.st_run.specs.Commands.{ForBytes, Reads, IsValid, IsValidFor, DoneStatus, Does, OfRules, OfAnswer, behind, file_of}
-use Rattle.st_run.specs.Headline.{IsDone, IsReported, LeftOpen, StaysOpen, StopsIn, in_output, in_report, in_read_fault, in_want, Finishes, finished, stops_in_output, stops_in_report, stops_in_want, wants, EndsBy, DoesTold, Calls, finishes, lacks, fails, stops_in_fault}
+use Rattle.st_run.specs.Commands.{ForBytes, Reads, IsValid, IsValidFor, DoneStatus, Does, OfRules, behind, file_of}
+use Rattle.st_run.specs.Headline.{IsDone, IsReported, LeftOpen, StopsIn, in_output, in_report, in_read_fault, in_want, Finishes, finished, stops_in_output, stops_in_report, stops_in_want, wants, EndsBy, DoesTold, Calls, finishes, lacks, fails, stops_in_fault}
 use Rattle.st_run.proofs.SomeOutcome.{some_outcome, some_of_rules, of_task_status}
 
 -- what holds of the outcome holds for the command
@@ -104,9 +103,17 @@ module _ (outcome : Outcome) (W T : Type 0) (out out' report report' : Option (L
   any_report (stops_in_want nine t same part) = absurd t
   any_report (wants ten is) = wants ten is
 
+-- a text that was made
+pub made_text : (text bytes : List ℕ) (W T : Type 0) (out out' report report' : Option (List ℕ)) (status : ℕ) → bytes ≡ text → Finishes (Outcomes.done bytes) W ⊥ out out' report report' status → Finishes (Outcomes.done text) W T out out' report report' status
+made_text text bytes W T out out' report report' status same f = subst (λ (t : List ℕ). Finishes (Outcomes.done t) W T out out' report report' status) same (any_report (Outcomes.done bytes) W T out out' report report' status f)
+
 -- with a property of outcomes
 pub ends_by : (P : Outcome → Type 0) (o : Outcome) (W T : Type 0) (out out' report report' : Option (List ℕ)) (status : ℕ) → P o → Finishes o W T out out' report report' status → EndsBy P W T out out' report report' status
 ends_by P o W T out out' report report' status is f = record { outcome = o; is = is; ends = f }
+
+-- of the task that a command names
+pub of_task : (t : Task) (c : Command) (us : List unit.Unit) (bytes : ℕ) (W T : Type 0) (out out' report report' : Option (List ℕ)) (status : ℕ) → c.task ≡ t → EndsBy (OfTask t c us bytes) W T out out' report report' status → EndsBy (OfTask c.task c us bytes) W T out out' report report' status
+of_task t c us bytes W T out out' report report' status is e = subst (λ (u : Task). EndsBy (OfTask u c us bytes) W T out out' report report' status) (sym is) e
 
 -- where memory is wanted, any outcome will do
 pub wanted_by : (P : Outcome → Type 0) (W T : Type 0) (out report report' : Option (List ℕ)) (status : ℕ) → ((o : Outcome) × P o) → ((o : Outcome) → Finishes o ⊥ T out out report report' status) → EndsBy P W T out out report report' status

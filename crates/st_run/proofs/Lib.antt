@@ -2,5 +2,4 @@ pub mod CallLemmas
 pub mod OneOutcome
 pub mod RunLemmas
 pub mod SomeOutcome
-pub mod StandIn
 pub mod StatsLemmas

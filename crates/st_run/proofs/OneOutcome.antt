@@ -16,7 +16,7 @@ use Rattle.st_words.specs.declared.command.Command.{Command}
 use Rattle.st_words.specs.declared.command.Task.{Task}
 use Rattle.st_words.specs.declared.command.Task.TheVariants as task
 use Rattle.st_run.specs.Outcomes.{Outcome, program_for, transcript, summary, ended, IsOfRun, OfTask}
-use Rattle.st_run.specs.Commands.{OfRules, OfAnswer, Does, OneOutcome, file_of}
+use Rattle.st_run.specs.Commands.{OfRules, OfAnswer, OneOutcome, file_of}
 
 -- ---- instructions
 

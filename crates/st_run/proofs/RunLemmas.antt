@@ -1,5 +1,5 @@
 -- What comes of a machine whose run ended, or whose output failed.
-use Rattle.std.proofs.Common.{◌≡◌, ◌≢◌, ◌×◌, ◌≤◌, ◌∙◌, inl, inr, ℕ, List, [], ◌++◌, length, Option, Some, codes, refl, sym, ap, subst, arith}
+use Rattle.std.proofs.Common.{◌≡◌, ◌≢◌, ◌≤◌, ◌∙◌, inl, inr, ℕ, List, [], ◌++◌, length, Option, Some, codes, refl, ap, subst, arith}
 use Rattle.std.proofs.lemmas.Bool.Decides.{eqb_tells}
 use Rattle.std.specs.Io.KnownBytes.{append_known}
 use Rattle.object_heap.specs.Store.{Store}
@@ -18,14 +18,16 @@ use Rattle.st_run.specs.Reports.{stats_if, ending_line}
 use Rattle.st_run.specs.Outcomes.{Outcome, program_for, ending_status, line_of, transcript, summary, ended, IsOfRun}
 use Rattle.st_run.specs.Headline.{stops_in_output, stops_in_report, finished, EndsBy}
 use Rattle.st_run.specs.Told.{ending_report, HasEnded}
-use Rattle.st_run.specs.StandIn.{EndsAs, StopsAs}
-use Rattle.st_run.proofs.StandIn.{same_text}
+use Rattle.st_runner.specs.RunToEnd.{EndsAs, StopsAs}
+use Rattle.st_transcript.specs.Unhandled.{unhandled_text}
+use Rattle.st_runner.proofs.Unhandled.{unhandled-same}
 
 -- ---- the report
 
 same_ending_line : (p q : Program) (limits : Limits) (s s' : Store) (e : Ending) → p ≡ q → s.objects ≡ s'.objects → ending_line p limits s e ≡ ending_line q limits s' e
 same_ending_line p q limits s s' Done same objects = refl
-same_ending_line p q limits s s' (Unhandled v) same objects = rw same (ap (λ (t : List ℕ). codes "stx: unhandled " ++ t ++ codes "\n") (same_text q s s' v objects))
+same_ending_line p q limits s s' (Unhandled v) same objects =
+    ap (λ (t : List ℕ). codes "stx: unhandled " ++ t ++ codes "\n") (ap (λ (x : Program). unhandled_text x s v) same ∙ unhandled-same q s s' v objects)
 same_ending_line p q limits s s' (AtLimit StepLimit) same objects = refl
 same_ending_line p q limits s s' (AtLimit DepthLimit) same objects = refl
 same_ending_line p q limits s s' (AtLimit CellLimit) same objects = refl

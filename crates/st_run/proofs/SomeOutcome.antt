@@ -1,5 +1,5 @@
 -- Each command has an outcome for each input: each program has a run by the rules, and the flat machine makes it.
-use Rattle.std.proofs.Common.{◌≡◌, ◌⊎◌, ◌≤◌, inl, inr, ℕ, List, [], length, Option, None, Some, refl, arith}
+use Rattle.std.proofs.Common.{inl, inr, ℕ, List, length, Option, None, Some, refl, arith}
 use Rattle.st_tree.specs.declared.units.Unit as unit
 use Rattle.sif_elements.specs.Reading.{Answer, Read, Refuse}
 use Rattle.sif_elements.specs.Steps.{reading}
@@ -16,7 +16,7 @@ use Rattle.st_words.specs.declared.command.Task.TheVariants as task
 use Rattle.st_answers.specs.Listing.{ok_line, listing}
 use Rattle.sif_export.specs.ExportText.{export_text}
 use Rattle.st_run.specs.Outcomes.{Outcome, done, refused, usage, program_for, ending_status, transcript, summary, ended, IsOfRun, OfTask, IsEnding, DoneBy}
-use Rattle.st_run.specs.Commands.{place_at, OfRules, OfAnswer, Does, SomeOutcome, file_of}
+use Rattle.st_run.specs.Commands.{place_at, OfRules, OfAnswer, SomeOutcome, file_of}
 
 pub some_of_run : (c : Command) (us : List unit.Unit) (output : Ending → State → List ℕ) → (o : Outcome) × IsOfRun c us output o
 some_of_run c us output =

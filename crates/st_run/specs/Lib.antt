@@ -2,5 +2,4 @@ pub mod Reports
 pub mod Outcomes
 pub mod Commands
 pub mod Headline
-pub mod StandIn
 pub mod Told

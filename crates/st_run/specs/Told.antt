@@ -8,7 +8,7 @@ use Rattle.st_machine.specs.Plans.{program_in}
 use Rattle.st_machine.specs.Seen.{Seen}
 use Rattle.st_run.specs.Reports.{stats_if, ending_line}
 use Rattle.st_run.specs.Outcomes.{program_for}
-use Rattle.st_run.specs.StandIn.{EndsAs}
+use Rattle.st_runner.specs.RunToEnd.{EndsAs}
 
 -- the statistics where they are asked for, and the line of the ending
 unfoldable pub ending_report : Command → Seen → Ending → List ℕ

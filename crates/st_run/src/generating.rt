@@ -11,15 +11,16 @@ ghost use Rattle.st_machine.specs.Plans.{program_in};
 ghost use Rattle.st_run.specs.Outcomes.{line_of, program_for, summary, IsOfRun};
 ghost use Rattle.st_run.specs.Headline.{EndsBy};
 ghost use Rattle.st_run.specs.Told.{HasEnded};
-ghost use Rattle.st_run.specs.StandIn.{IsFirst};
+ghost use Rattle.st_runner.specs.Firsts.{IsFirst};
 
 use crate::finish::report_want_of_memory;
 use crate::running::report_ending;
-use crate::stand_in::{open, run_to_end};
 use cell_heap::CellHeap;
 use st_base::{OutOfMemory, Sink, put_all};
 use st_gen::{Kept, gen_line};
 use st_machine::{Ending, Machine};
+use st_opening::open;
+use st_runner::run_to_end;
 use st_tree::units::Definition;
 use st_words::Command;
 use std::alloc::Global;

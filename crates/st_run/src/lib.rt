@@ -7,7 +7,6 @@ mod generating;
 mod law;
 mod report;
 mod running;
-mod stand_in;
 mod top;
 
 pub use finish::report_want_of_memory;

@@ -77,14 +77,22 @@ fn put<E: Sink>(bytes: &[u8], report: &mut E) -> Result<(), Failed>
     put_all(report, bytes)
 }
 
+// Writes a number in decimal digits.
+fn put_decimal<E: Sink>(number: u64, report: &mut E) -> Result<(), Failed>
+    ensures text { Gains (E.written report.old) (E.written report.new) result (decimal number) }
+    ensures cause { HasCause (E.faults report.old) (E.faults report.new) result }
+{
+    let mut digits = Buffer::new();
+    put(digits.format(number).as_bytes(), report)
+}
+
 // Writes a word and a number.
 fn put_number<E: Sink>(word: &[u8], number: u64, report: &mut E) -> Result<(), Failed>
     ensures text { Gains (E.written report.old) (E.written report.new) result (word.now ++ decimal number) }
     ensures cause { HasCause (E.faults report.old) (E.faults report.new) result }
 {
-    let mut digits = Buffer::new();
     put(word, report)?;
-    put(digits.format(number).as_bytes(), report)
+    put_decimal(number, report)
 }
 
 // Writes a line that ends in a number.

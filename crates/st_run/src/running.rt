@@ -14,14 +14,15 @@ ghost use Rattle.st_run.specs.Reports.{stats_if};
 ghost use Rattle.st_run.specs.Outcomes.{ending_status, program_for, transcript, IsOfRun};
 ghost use Rattle.st_run.specs.Headline.{EndsBy};
 ghost use Rattle.st_run.specs.Told.{ending_report};
-ghost use Rattle.st_run.specs.StandIn.{IsFirst};
+ghost use Rattle.st_runner.specs.Firsts.{IsFirst};
 
 use crate::finish::report_want_of_memory;
 use crate::report::{put_ending, put_stats};
-use crate::stand_in::{open, run_to_end};
 use cell_heap::CellHeap;
 use st_base::{Failed, Sink};
 use st_machine::{Ending, Machine};
+use st_opening::open;
+use st_runner::run_to_end;
 use st_tree::units::Definition;
 use st_words::Command;
 use std::alloc::Global;

@@ -89,8 +89,10 @@ fn call<S: Source, K: Sink, E: Sink>(
 }
 
 /// Does all that the program does for its words and its input, and answers the status: 0 done,
-/// 1 a refused input, 2 words that are no command, 8 a read fault, 9 a write fault, 10 want of
-/// memory. All of the input is read and checked before any output is written.
+/// 1 a refused input, 2 words that are no command, 3 an exception that nothing handled, 4 to 7 the
+/// limit of steps, depth, cells or integers, 8 a read fault, 9 a write fault, 10 want of memory. All
+/// of the input is read and checked before any output is written. The Transcript is written as the
+/// run goes on, and all of the output before the report.
 pub fn stx<S: Source, K: Sink, E: Sink>(
     alloc: Global,
     words: &[String],
@@ -101,6 +103,7 @@ pub fn stx<S: Source, K: Sink, E: Sink>(
     // Any status but those of faults: the output, the report and the status are those of the command.
     ensures done { result ≢ 8 → result ≢ 9 → result ≢ 10 → ForBytes (command_of (map string_bytes words.now)) (S.left source.old)
         (λ outcome. IsDone outcome (K.written out.old) (K.written out.new) (E.written report.old) (E.written report.new) result) }
+    // A task that is done with a program, or whose run came to another ending, has read all of the input.
     ensures read_to_end { IsEnding result → IfSome (S.left source.new) (λ bytes. bytes ≡ []) }
 
     // A read fault: a command read, the source failed, and what it gave before settles no refusal.

@@ -11,4 +11,4 @@ returns-in_err-put-clause-text g c =
 
 pub returns-clause-text : goal.returns-clause-text
 returns-clause-text g c =
-    wrote_end (c.args.word.now ++ decimal c.args.number) (decimal c.args.number) _ _ _ c.put-2.result (wrote_more (c.args.word.now ++ decimal c.args.number) c.args.word.now (decimal c.args.number) _ _ _ (wrote_first _ _ _ refl) c.in_ok-put.ensures.text) c.put-2.ensures.text
+    wrote_end (c.args.word.now ++ decimal c.args.number) (decimal c.args.number) _ _ _ c.put_decimal.result (wrote_more (c.args.word.now ++ decimal c.args.number) c.args.word.now (decimal c.args.number) _ _ _ (wrote_first _ _ _ refl) c.in_ok-put.ensures.text) c.put_decimal.ensures.text

@@ -20,7 +20,7 @@ returns-in_err-put_number-2-clause-text g c =
     let last = limit_line (codes " instructions ") s.instructions in
     let total = stats_line s.steps s.depth s.cells s.instructions in
     let first = wrote_more total (steps_piece s.steps) (depth_piece s.depth ++ (cells_piece s.cells ++ last)) _ _ _ (wrote_first _ _ _ (stats_pieces s.steps s.depth s.cells s.instructions)) c.in_ok-put_number.ensures.text in
-    rw p.1 (wrote_part total (depth_piece s.depth) (cells_piece s.cells ++ last) _ _ _ first c.in_err-put_number-2.ensures.text)
+    rw p.1 (wrote_part total (depth_piece s.depth) (cells_piece s.cells ++ last) _ _ _ first (rw c.from.ensures at c.in_err-put_number-2.ensures.text))
 
 pub returns-in_err-put_number-3-clause-text : goal.returns-in_err-put_number-3-clause-text
 returns-in_err-put_number-3-clause-text g c =
@@ -29,8 +29,8 @@ returns-in_err-put_number-3-clause-text g c =
     let last = limit_line (codes " instructions ") s.instructions in
     let total = stats_line s.steps s.depth s.cells s.instructions in
     let first = wrote_more total (steps_piece s.steps) (depth_piece s.depth ++ (cells_piece s.cells ++ last)) _ _ _ (wrote_first _ _ _ (stats_pieces s.steps s.depth s.cells s.instructions)) c.in_ok-put_number.ensures.text in
-    let second = wrote_more total (depth_piece s.depth) (cells_piece s.cells ++ last) _ _ _ first c.in_ok-put_number-2.ensures.text in
-    rw p.1 (wrote_part total (cells_piece s.cells) last _ _ _ second c.in_err-put_number-3.ensures.text)
+    let second = wrote_more total (depth_piece s.depth) (cells_piece s.cells ++ last) _ _ _ first (rw c.from.ensures at c.in_ok-put_number-2.ensures.text) in
+    rw p.1 (wrote_part total (cells_piece s.cells) last _ _ _ second (rw c.from-2.ensures at c.in_err-put_number-3.ensures.text))
 
 pub returns-clause-text : goal.returns-clause-text
 returns-clause-text g c =
@@ -38,5 +38,5 @@ returns-clause-text g c =
     let last = limit_line (codes " instructions ") s.instructions in
     let total = stats_line s.steps s.depth s.cells s.instructions in
     let first = wrote_more total (steps_piece s.steps) (depth_piece s.depth ++ (cells_piece s.cells ++ last)) _ _ _ (wrote_first _ _ _ (stats_pieces s.steps s.depth s.cells s.instructions)) c.in_ok-put_number.ensures.text in
-    let second = wrote_more total (depth_piece s.depth) (cells_piece s.cells ++ last) _ _ _ first c.in_ok-put_number-2.ensures.text in
-    wrote_end total last _ _ _ c.put_limit.result (wrote_more total (cells_piece s.cells) last _ _ _ second c.in_ok-put_number-3.ensures.text) c.put_limit.ensures.text
+    let second = wrote_more total (depth_piece s.depth) (cells_piece s.cells ++ last) _ _ _ first (rw c.from.ensures at c.in_ok-put_number-2.ensures.text) in
+    wrote_end total last _ _ _ c.put_limit.result (wrote_more total (cells_piece s.cells) last _ _ _ second (rw c.from-2.ensures at c.in_ok-put_number-3.ensures.text)) c.put_limit.ensures.text

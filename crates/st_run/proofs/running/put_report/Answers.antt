@@ -1,5 +1,4 @@
 -- The statistics, then the line of the ending.
-use Rattle.std.proofs.Common.{refl}
 use Rattle.std.proofs.lemmas.Result.{err_from_is_err_and}
 use Rattle.st_machine.specs.Meaning.{ending_of}
 use Rattle.st_machine.specs.Plans.{program_in}
