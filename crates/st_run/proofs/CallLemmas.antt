@@ -1,36 +1,50 @@
 -- What is said of a call by how it ends.
-use Rattle.std.proofs.Common.{◌≡◌, ◌≢◌, ◌⊎◌, ◌∙◌, inl, inr, ℕ, List, [], Option, None, Some, IfSome, refl, sym, ap}
+use Rattle.std.proofs.Common.{◌≡◌, ◌≢◌, ◌⊎◌, ◌∙◌, ◌≤◌, inl, inr, ℕ, ◌++◌, List, [], ◌∷◌, length, Option, None, Some, IfSome, refl, sym, ap, subst, arith}
 use Rattle.std.proofs.lemmas.List.{append-nil}
 use Rattle.std.proofs.lemmas.Bool.Decides.{eqb_tells}
 use Rattle.std.specs.Io.KnownBytes.{append_known}
 use Rattle.st_base.specs.declared.faults.Place.{Place}
 use Rattle.st_base.specs.declared.faults.Reason.{Reason}
 use Rattle.st_base.specs.Streams.{GainsPrefix}
+use Rattle.sif_chunks.specs.Reading.{Takes}
 use Rattle.sif_elements.specs.Answered.{LeavesOpen}
 use Rattle.sif_elements.specs.Reading.{Read, Refuse}
 use Rattle.sif_elements.specs.Steps.{reading}
 use Rattle.st_tree.specs.declared.units.Unit as unit
-use Rattle.st_answers.specs.Shows.{Program, Shows, program_of}
-use Rattle.st_checks.specs.StaticRules.{Break, broken, first_break}
+use Rattle.st_checks.specs.StaticRules.{broken, first_break}
 use Rattle.st_words.specs.declared.command.Command.{Command}
 use Rattle.st_words.specs.declared.command.Task.{Task}
-use Rattle.st_words.specs.declared.command.Task.TheVariants as task
-use Rattle.st_run.specs.Commands as Commands
-use Rattle.st_run.specs.Commands.{Outcome, refused, ForBytes, Reads, IsValid, IsValidFor, CanRun, does, runs, of_rules, of_units, of_answer, read_fault_line, memory_line}
-use Rattle.st_run.specs.Headline.{IsDone, IsReported, StopsIn, in_output, in_report, in_read_fault, in_want, Finishes, finished, stops_in_output, stops_in_report, stops_in_want, wants, Calls, finishes, lacks, fails, stops_in_fault}
+use Rattle.st_run.specs.Reports.{read_fault_line, memory_line}
+use Rattle.st_run.specs.Outcomes as Outcomes
+use Rattle.st_run.specs.Outcomes.{Outcome, refused, usage, OfTask, IsEnding, DoneBy}
+use Rattle.st_run.specs.Commands.{ForBytes, Reads, IsValid, IsValidFor, DoneStatus, Does, OfRules, behind, file_of}
+use Rattle.st_run.specs.Headline.{IsDone, IsReported, LeftOpen, StopsIn, in_output, in_report, in_read_fault, in_want, Finishes, finished, stops_in_output, stops_in_report, stops_in_want, wants, EndsBy, DoesTold, Calls, finishes, lacks, fails, stops_in_fault}
+use Rattle.st_run.proofs.SomeOutcome.{some_outcome, some_of_rules, of_task_status}
 
 -- what holds of the outcome holds for the command
-for_outcome : (command : Option Command) (left : Option (List ℕ)) (P : Outcome → Type 0) (outcome : Outcome) → ForBytes command left (λ o. o ≡ outcome) → P outcome → ForBytes command left P
-for_outcome None left P outcome is holds = rw is holds
+for_outcome : (command : Option Command) (left : Option (List ℕ)) (P : Outcome → Type 0) (outcome : Outcome) → DoesTold command left outcome → P outcome → ForBytes command left P
+for_outcome None left P outcome is holds = (outcome, is, holds)
 for_outcome (Some c) None P outcome is holds = tt
-for_outcome (Some c) (Some bytes) P outcome is holds = rw is holds
+for_outcome (Some c) (Some bytes) P outcome is holds = (outcome, is, holds)
 
 for_all : (command : Option Command) (left : Option (List ℕ)) (P : Outcome → Type 0) → ((outcome : Outcome) → P outcome) → ForBytes command left P
-for_all None left P holds = holds (does None [])
+for_all None left P holds = (usage, refl, holds usage)
 for_all (Some c) None P holds = tt
-for_all (Some c) (Some bytes) P holds = holds (does (Some c) bytes)
+for_all (Some c) (Some bytes) P holds =
+    let o = some_outcome (Some c) bytes in
+    (o.0, o.1, holds o.0)
 
 -- ---- of a call that finishes
+
+above_7 : (status : ℕ) → IsEnding status → 8 ≤ status → ⊥
+above_7 status (inl zero) h = omega (arith, zero, h)
+above_7 status (inr at) h = omega (arith, at.1, h)
+
+not_1_or_2 : (status : ℕ) → (status ≡ 1) ⊎ (status ≡ 2) → IsEnding status → ⊥
+not_1_or_2 status (inl one) (inl zero) = omega (arith, one, zero)
+not_1_or_2 status (inl one) (inr at) = omega (arith, one, at.0)
+not_1_or_2 status (inr two) (inl zero) = omega (arith, two, zero)
+not_1_or_2 status (inr two) (inr at) = omega (arith, two, at.0)
 
 module _ (outcome : Outcome) (W T : Type 0) (out out' report report' : Option (List ℕ)) (status : ℕ) where
   pub is_done : Finishes outcome W T out out' report report' status → status ≢ 9 → status ≢ 10 → IsDone outcome out out' report report' status
@@ -47,12 +61,12 @@ module _ (outcome : Outcome) (W T : Type 0) (out out' report report' : Option (L
   not_8 (stops_in_want nine t same part) = λ eight. cc
   not_8 (wants ten is) = λ eight. cc
 
-  pub not_0 : (outcome.status ≢ 0) → Finishes outcome W T out out' report report' status → status ≢ 0
-  not_0 differs (finished is no8 no9 no10) = λ zero. differs (sym is.answered ∙ zero)
-  not_0 differs (stops_in_output nine w part same) = λ zero. cc
-  not_0 differs (stops_in_report nine t whole part) = λ zero. cc
-  not_0 differs (stops_in_want nine t same part) = λ zero. cc
-  not_0 differs (wants ten is) = λ zero. cc
+  pub no_ending : (IsEnding outcome.status → ⊥) → Finishes outcome W T out out' report report' status → IsEnding status → ⊥
+  no_ending differs (finished is no8 no9 no10) at = differs (rw (← is.answered) at)
+  no_ending differs (stops_in_output nine w part same) at = above_7 status at (rw nine (omega arith))
+  no_ending differs (stops_in_report nine t whole part) at = above_7 status at (rw nine (omega arith))
+  no_ending differs (stops_in_want nine t same part) at = above_7 status at (rw nine (omega arith))
+  no_ending differs (wants ten is) at = above_7 status at (rw ten (omega arith))
 
   pub stops : (R : Type 0) → Finishes outcome W T out out' report report' status → status ≡ 9 → StopsIn outcome R W T out out' report report'
   stops R (finished is no8 no9 no10) nine = absurd (no9 nine)
@@ -89,16 +103,32 @@ module _ (outcome : Outcome) (W T : Type 0) (out out' report report' : Option (L
   any_report (stops_in_want nine t same part) = absurd t
   any_report (wants ten is) = wants ten is
 
--- the same outcome
-pub of_same : (outcome other : Outcome) (W T : Type 0) (out out' report report' : Option (List ℕ)) (status : ℕ) → other ≡ outcome → Finishes other W T out out' report report' status → Finishes outcome W T out out' report report' status
-of_same outcome other W T out out' report report' status same f = rw (← same) f
+-- a text that was made
+pub made_text : (text bytes : List ℕ) (W T : Type 0) (out out' report report' : Option (List ℕ)) (status : ℕ) → bytes ≡ text → Finishes (Outcomes.done bytes) W ⊥ out out' report report' status → Finishes (Outcomes.done text) W T out out' report report' status
+made_text text bytes W T out out' report report' status same f = subst (λ (t : List ℕ). Finishes (Outcomes.done t) W T out out' report report' status) same (any_report (Outcomes.done bytes) W T out out' report report' status f)
+
+-- with a property of outcomes
+pub ends_by : (P : Outcome → Type 0) (o : Outcome) (W T : Type 0) (out out' report report' : Option (List ℕ)) (status : ℕ) → P o → Finishes o W T out out' report report' status → EndsBy P W T out out' report report' status
+ends_by P o W T out out' report report' status is f = record { outcome = o; is = is; ends = f }
+
+-- of the task that a command names
+pub of_task : (t : Task) (c : Command) (us : List unit.Unit) (bytes : ℕ) (W T : Type 0) (out out' report report' : Option (List ℕ)) (status : ℕ) → c.task ≡ t → EndsBy (OfTask t c us bytes) W T out out' report report' status → EndsBy (OfTask c.task c us bytes) W T out out' report report' status
+of_task t c us bytes W T out out' report report' status is e = subst (λ (u : Task). EndsBy (OfTask u c us bytes) W T out out' report report' status) (sym is) e
+
+-- where memory is wanted, any outcome will do
+pub wanted_by : (P : Outcome → Type 0) (W T : Type 0) (out report report' : Option (List ℕ)) (status : ℕ) → ((o : Outcome) × P o) → ((o : Outcome) → Finishes o ⊥ T out out report report' status) → EndsBy P W T out out report report' status
+wanted_by P W T out report report' status o f = record { outcome = o.0; is = o.1; ends = any_write o.0 W T out out report report' status (f o.0) }
 
 -- a program that meets the static rules, and one that breaks them
-pub by_rules : (t : Task) (us vs : List unit.Unit) (W T : Type 0) (out out' report report' : Option (List ℕ)) (status : ℕ) → vs ≡ us → first_break us ≡ None → Finishes (of_units t vs) W T out out' report report' status → Finishes (of_rules t us (first_break us)) W T out out' report report' status
-by_rules t us vs W T out out' report report' status same meets f = rw meets (rw (← same) f)
+module _ (c : Command) (us : List unit.Unit) (bytes : ℕ) where
+  pub by_rules : (vs : List unit.Unit) (W T : Type 0) (out out' report report' : Option (List ℕ)) (status : ℕ) → vs ≡ us → first_break us ≡ None → EndsBy (OfTask c.task c vs bytes) W T out out' report report' status → EndsBy (OfRules c us bytes (first_break us)) W T out out' report report' status
+  by_rules vs W T out out' report report' status same meets e = record { outcome = e.outcome; is = rw meets (rw (← same) e.is); ends = e.ends }
 
-pub by_break : (t : Task) (us : List unit.Unit) (place : Place) (why : Reason) (W T : Type 0) (out report report' : Option (List ℕ)) (status : ℕ) → first_break us ≡ Some (broken place why) → Finishes (refused place why) ⊥ T out out report report' status → Finishes (of_rules t us (first_break us)) W T out out report report' status
-by_break t us place why W T out report report' status breaks f = rw breaks (any_write (refused place why) W T out out report report' status f)
+  pub by_break : (place : Place) (why : Reason) (W T : Type 0) (out report report' : Option (List ℕ)) (status : ℕ) → first_break us ≡ Some (broken place why) → Finishes (refused place why) ⊥ T out out report report' status → EndsBy (OfRules c us bytes (first_break us)) W T out out report report' status
+  by_break place why W T out report report' status breaks f = record { outcome = refused place why; is = rw breaks refl; ends = any_write (refused place why) W T out out report report' status f }
+
+  pub want_by_rules : (W T : Type 0) (out report report' : Option (List ℕ)) (status : ℕ) → ((o : Outcome) → Finishes o ⊥ T out out report report' status) → EndsBy (OfRules c us bytes (first_break us)) W T out out report report' status
+  want_by_rules W T out report report' status f = wanted_by (OfRules c us bytes (first_break us)) W T out report report' status (some_of_rules c us bytes (first_break us)) f
 
 pub append_known-nil : (known : Option (List ℕ)) → append_known known [] ≡ known
 append_known-nil None = refl
@@ -130,10 +160,10 @@ module _ (outcome : Outcome) (T : Type 0) (out report report' : Option (List ℕ
 pub told_9_or_10 : (status : ℕ) (A : Type 0) → (status ≢ 9 → (status ≡ 10) × A) → (status ≡ 9) ⊎ (status ≡ 10)
 told_9_or_10 status A whole = elim (eqb_tells status 9) [ inl at ↦ inl at.1 | inr other ↦ inr (whole other.1).0 ]
 
-pub writes_all : (W : Type 0) (bytes : List ℕ) (out out' report : Option (List ℕ)) → out' ≡ append_known out bytes → Finishes (Commands.done bytes) W ⊥ out out' report report 0
+pub writes_all : (W : Type 0) (bytes : List ℕ) (out out' report : Option (List ℕ)) → out' ≡ append_known out bytes → Finishes (Outcomes.done bytes) W ⊥ out out' report report 0
 writes_all W bytes out out' report wrote = finished (record { wrote = wrote; told = sym (append_known-nil report); answered = refl }) (λ is. cc) (λ is. cc) (λ is. cc)
 
-pub writes_part : (W : Type 0) (bytes : List ℕ) (out out' report : Option (List ℕ)) → W → GainsPrefix out out' bytes → Finishes (Commands.done bytes) W ⊥ out out' report report 9
+pub writes_part : (W : Type 0) (bytes : List ℕ) (out out' report : Option (List ℕ)) → W → GainsPrefix out out' bytes → Finishes (Outcomes.done bytes) W ⊥ out out' report report 9
 writes_part W bytes out out' report w part = stops_in_output refl w part refl
 
 -- ---- of a whole call
@@ -146,12 +176,12 @@ module _ (command : Option Command) (left left' : Option (List ℕ)) (R W T : Ty
   done_of (fails eight is r reads opens) not8 not9 not10 = absurd (not8 eight)
   done_of (stops_in_fault nine t r same part reads) not8 not9 not10 = absurd (not9 nine)
 
-  pub end_of : Calls command left left' R W T out out' report report' status → status ≡ 0 → IfSome left' (λ bytes. bytes ≡ [])
-  end_of (finishes outcome f is end) zero = end zero
-  end_of (lacks f (inl nine)) zero = cc
-  end_of (lacks f (inr ten)) zero = cc
-  end_of (fails eight is r reads opens) zero = cc
-  end_of (stops_in_fault nine t r same part reads) zero = cc
+  pub end_of : Calls command left left' R W T out out' report report' status → IsEnding status → IfSome left' (λ bytes. bytes ≡ [])
+  end_of (finishes outcome f is end) at = end at
+  end_of (lacks f (inl nine)) at = absurd (above_7 status at (rw nine (omega arith)))
+  end_of (lacks f (inr ten)) at = absurd (above_7 status at (rw ten (omega arith)))
+  end_of (fails eight is r reads opens) at = absurd (above_7 status at (rw eight (omega arith)))
+  end_of (stops_in_fault nine t r same part reads) at = absurd (above_7 status at (rw nine (omega arith)))
 
   pub fault_of : Calls command left left' R W T out out' report report' status → status ≡ 8 → IsReported read_fault_line out out' report report'
   fault_of (finishes outcome f is end) eight = absurd (not_8 outcome W T out out' report report' status f eight)
@@ -167,7 +197,7 @@ module _ (command : Option Command) (left left' : Option (List ℕ)) (R W T : Ty
   fault_cause (fails at is r reads opens) eight = (r, reads)
   fault_cause (stops_in_fault nine t r same part reads) eight = cc
 
-  pub fault_open : Calls command left left' R W T out out' report report' status → status ≡ 8 → IfSome left (λ file. LeavesOpen file left')
+  pub fault_open : Calls command left left' R W T out out' report report' status → status ≡ 8 → IfSome left (λ bytes. LeftOpen command bytes left')
   fault_open (finishes outcome f is end) eight = absurd (not_8 outcome W T out out' report report' status f eight)
   fault_open (lacks f (inl nine)) eight = cc
   fault_open (lacks f (inr ten)) eight = cc
@@ -182,13 +212,13 @@ module _ (command : Option Command) (left left' : Option (List ℕ)) (R W T : Ty
 
   pub write_cause_of : Calls command left left' R W T out out' report report' status → status ≡ 9 → W ⊎ T
   write_cause_of (finishes outcome f is end) nine = cause outcome W T out out' report report' status f nine
-  write_cause_of (lacks f at) nine = cause (does None []) W T out out' report report' status (f (does None [])) nine
+  write_cause_of (lacks f at) nine = cause usage W T out out' report report' status (f usage) nine
   write_cause_of (fails eight is r reads opens) nine = cc
   write_cause_of (stops_in_fault at t r same part reads) nine = inr t
 
   pub want_of : Calls command left left' R W T out out' report report' status → status ≡ 10 → IsReported memory_line out out' report report'
   want_of (finishes outcome f is end) ten = is_wanted outcome W T out out' report report' status f ten
-  want_of (lacks f at) ten = is_wanted (does None []) W T out out' report report' status (f (does None [])) ten
+  want_of (lacks f at) ten = is_wanted usage W T out out' report report' status (f usage) ten
   want_of (fails eight is r reads opens) ten = cc
   want_of (stops_in_fault at t r same part reads) ten = cc
 
@@ -201,46 +231,68 @@ module _ (command : Option Command) (left left' : Option (List ℕ)) (R W T : Ty
   pub complete_of : Calls command left left' R W T out out' report report' status → ¬ R → ¬ W → ¬ T → status ≢ 10 → ForBytes command left (λ outcome. IsDone outcome out out' report report' status)
   complete_of calls no_read no_write no_report not10 = done_of calls (no_8 calls no_read) (no_9 calls no_write no_report) not10
 
-valid_units : (t : Task) (us : List unit.Unit) → CanRun t us → (of_units t us).status ≡ 0
-valid_units task.Run us can = rw can.1 refl
-valid_units task.Check us can = refl
-valid_units task.List us can = refl
-valid_units task.Export us can = refl
-valid_units task.Gen us can = refl
+valid_status : (c : Command) (bytes : List ℕ) (o : Outcome) → Does (Some c) bytes o → IsValidFor c bytes → DoneBy c.task o.status
+valid_status c bytes o is v =
+    let read : OfRules c v.units (length (file_of c bytes)) (first_break v.units) o = rw (v.reads) at is in
+    let met : OfTask c.task c v.units (length (file_of c bytes)) o = rw (v.meets) at read in
+    of_task_status c.task c v.units (length (file_of c bytes)) o met
 
-valid_answer : (t : Task) (bytes : List ℕ) → IsValidFor t bytes → (of_answer t (reading bytes)).status ≡ 0
-valid_answer t bytes v = rw (v.reads, v.meets) (valid_units t v.units v.runs)
-
-pub valid_of : (command : Option Command) (left : Option (List ℕ)) (out out' report report' : Option (List ℕ)) (status : ℕ) → ForBytes command left (λ outcome. IsDone outcome out out' report report' status) → Reads command → IfSome left (λ bytes. IsValid command bytes → status ≡ 0)
+pub valid_of : (command : Option Command) (left : Option (List ℕ)) (out out' report report' : Option (List ℕ)) (status : ℕ) → ForBytes command left (λ outcome. IsDone outcome out out' report report' status) → Reads command → IfSome left (λ bytes. IsValid command bytes → DoneStatus command status)
 valid_of None left out out' report report' status done reads = absurd reads
 valid_of (Some c) None out out' report report' status done reads = tt
-valid_of (Some c) (Some bytes) out out' report report' status done reads = λ valid. done.answered ∙ valid_answer c.task bytes valid
+valid_of (Some c) (Some bytes) out out' report report' status done reads = λ valid. rw done.2.answered (valid_status c bytes done.0 done.1 valid)
 
 -- ---- the ways in which a call comes to its end
 
-module _ (c : Command) (left left' : Option (List ℕ)) (R W T : Type 0) (out out' report report' : Option (List ℕ)) (status : ℕ) where
-  read_outcome : (left : Option (List ℕ)) (us : List unit.Unit) → IfSome left (λ file. reading file ≡ Read us) → IfSome left (λ file. of_answer c.task (reading file) ≡ of_rules c.task us (first_break us))
-  read_outcome None us is = tt
-  read_outcome (Some file) us is = ap (of_answer c.task) is
+-- the file that is read, where the source tells its bytes
+known_file : (c : Command) (left : Option (List ℕ)) (lines : List ℕ) (P : List ℕ → Type 0) → lines ≡ behind c → IfSome (append_known left lines) P → IfSome left (λ bytes. P (file_of c bytes))
+known_file c None lines P is holds = tt
+known_file c (Some bytes) lines P is holds = rw is at holds
 
-  refused_outcome : (left : Option (List ℕ)) (place : Place) (why : Reason) → IfSome left (λ file. reading file ≡ Refuse place.element place.byte why) → IfSome left (λ file. of_answer c.task (reading file) ≡ refused place why)
-  refused_outcome None place why is = tt
-  refused_outcome (Some file) place why is = ap (of_answer c.task) is
+-- as many bytes were taken as the file has, where none are left of it
+pub count_is : (file left : Option (List ℕ)) (bytes : ℕ) (got : List ℕ) → Takes 0 bytes file left got → IfSome left (λ bytes. bytes ≡ []) → IfSome file (λ file. bytes ≡ length file)
+count_is file None bytes got t end = subst (λ (o : Option (List ℕ)). IfSome o (λ file. bytes ≡ length file)) (sym t.bytes) tt
+count_is file (Some rest) bytes got t end =
+    let all : length (got ++ rest) ≡ length got = ap (λ (r : List ℕ). length (got ++ r)) end ∙ ap length (append-nil got) in
+    let same : bytes ≡ length (got ++ rest) = omega (arith, t.count, all) in
+    subst (λ (o : Option (List ℕ)). IfSome o (λ file. bytes ≡ length file)) (sym t.bytes) same
 
-  pub read_calls : (us : List unit.Unit) → IfSome left (λ file. reading file ≡ Read us) → IfSome left' (λ bytes. bytes ≡ []) → Finishes (of_rules c.task us (first_break us)) W T out out' report report' status → Calls (Some c) left left' R W T out out' report report' status
-  read_calls us is end f = finishes (of_rules c.task us (first_break us)) f (read_outcome left us is) (λ zero. end)
+-- nothing is left of the input where nothing is left of the file
+pub none_left : (left : Option (List ℕ)) (lines : List ℕ) → IfSome (append_known left lines) (λ bytes. bytes ≡ []) → IfSome left (λ bytes. bytes ≡ [])
+none_left None lines is = tt
+none_left (Some []) lines is = refl
+none_left (Some (x ∷ xs)) lines is = absurd cc
 
-  pub refused_calls : (place : Place) (why : Reason) → IfSome left (λ file. reading file ≡ Refuse place.element place.byte why) → Finishes (refused place why) ⊥ T out out report report' status → Calls (Some c) left left' R W T out out report report' status
-  refused_calls place why is f = finishes (refused place why) (any_write (refused place why) W T out out report report' status f) (refused_outcome left place why is) (λ zero. absurd (not_0 (refused place why) ⊥ T out out report report' status (λ one. cc) f zero))
+module _ (c : Command) (left left' : Option (List ℕ)) (lines lines' : List ℕ) (R W T : Type 0) (out out' report report' : Option (List ℕ)) (status : ℕ) where
+  read_does : (left : Option (List ℕ)) (us : List unit.Unit) (bytes : ℕ) (o : Outcome) → IfSome left (λ file. reading (file_of c file) ≡ Read us) → IfSome left (λ file. bytes ≡ length (file_of c file)) → OfRules c us bytes (first_break us) o → IfSome left (λ file. Does (Some c) file o)
+  read_does None us bytes o is count does = tt
+  read_does (Some file) us bytes o is count does = rw is (rw (← count) does)
 
-  pub fault_calls : (status ≢ 9 → (status ≡ 8) × (report' ≡ append_known report read_fault_line)) → (status ≡ 9 → GainsPrefix report report' read_fault_line × T) → R → IfSome left (λ file. LeavesOpen file left') → Calls (Some c) left left' R W T out out report report' status
-  fault_calls whole part r opens = elim (eqb_tells status 9) [
+  refused_does : (left : Option (List ℕ)) (place : Place) (why : Reason) → IfSome left (λ file. reading (file_of c file) ≡ Refuse place.element place.byte why) → IfSome left (λ file. Does (Some c) file (refused place why))
+  refused_does None place why is = tt
+  refused_does (Some file) place why is = rw is refl
+
+  pub read_calls : (us : List unit.Unit) (bytes : ℕ) → lines ≡ behind c → IfSome (append_known left lines) (λ file. reading file ≡ Read us) → IfSome (append_known left lines) (λ file. bytes ≡ length file) → IfSome (append_known left' lines') (λ bytes. bytes ≡ []) → EndsBy (OfRules c us bytes (first_break us)) W T out out' report report' status → Calls (Some c) left left' R W T out out' report report' status
+  read_calls us bytes same is count end e =
+      finishes e.outcome e.ends (read_does left us bytes e.outcome (known_file c left lines (λ file. reading file ≡ Read us) same is) (known_file c left lines (λ file. bytes ≡ length file) same count) e.is) (λ at. none_left left' lines' end)
+
+  pub refused_calls : (place : Place) (why : Reason) → lines ≡ behind c → IfSome (append_known left lines) (λ file. reading file ≡ Refuse place.element place.byte why) → Finishes (refused place why) ⊥ T out out report report' status → Calls (Some c) left left' R W T out out report report' status
+  refused_calls place why same is f =
+      finishes (refused place why) (any_write (refused place why) W T out out report report' status f) (refused_does left place why (known_file c left lines (λ file. reading file ≡ Refuse place.element place.byte why) same is)) (λ at. absurd (no_ending (refused place why) ⊥ T out out report report' status (not_1_or_2 1 (inl refl)) f at))
+
+  -- what was taken leaves the file open
+  stays_open : (left : Option (List ℕ)) → lines ≡ behind c → (lines ≡ [] → lines' ≡ []) → IfSome (append_known left lines) (λ file. LeavesOpen file (append_known left' lines')) → IfSome left (λ bytes. LeftOpen (Some c) bytes left')
+  stays_open None same spent opens = tt
+  stays_open (Some bytes) same spent opens = record { behind_left = lines'; plain = λ none. spent (same ∙ none); opens = rw same at opens }
+
+  pub fault_calls : lines ≡ behind c → (lines ≡ [] → lines' ≡ []) → (status ≢ 9 → (status ≡ 8) × (report' ≡ append_known report read_fault_line)) → (status ≡ 9 → GainsPrefix report report' read_fault_line × T) → R → IfSome (append_known left lines) (λ file. LeavesOpen file (append_known left' lines')) → Calls (Some c) left left' R W T out out report report' status
+  fault_calls same spent whole part r opens = elim (eqb_tells status 9) [
     | inl at ↦ stops_in_fault at.1 (part at.1).1 r refl (part at.1).0 tt
-    | inr other ↦ fails (whole other.1).0 (record { wrote = refl; told = (whole other.1).1 }) r tt opens
+    | inr other ↦ fails (whole other.1).0 (record { wrote = refl; told = (whole other.1).1 }) r tt (stays_open left same spent opens)
   ]
 
-pub usage_calls : (command : Option Command) (left left' : Option (List ℕ)) (R W T : Type 0) (out report report' : Option (List ℕ)) (status : ℕ) → command ≡ None → Finishes (does None []) ⊥ T out out report report' status → Calls command left left' R W T out out report report' status
-usage_calls command left left' R W T out report report' status is f = finishes (does None []) (any_write (does None []) W T out out report report' status f) (rw is refl) (λ zero. absurd (not_0 (does None []) ⊥ T out out report report' status (λ two. cc) f zero))
+pub usage_calls : (command : Option Command) (left left' : Option (List ℕ)) (R W T : Type 0) (out report report' : Option (List ℕ)) (status : ℕ) → command ≡ None → Finishes usage ⊥ T out out report report' status → Calls command left left' R W T out out report report' status
+usage_calls command left left' R W T out report report' status is f = finishes usage (any_write usage W T out out report report' status f) (rw is refl) (λ at. absurd (no_ending usage ⊥ T out out report report' status (not_1_or_2 2 (inr refl)) f at))
 
 pub want_calls : (command : Option Command) (left left' : Option (List ℕ)) (R W T : Type 0) (out report report' : Option (List ℕ)) (status : ℕ) → (status ≡ 9) ⊎ (status ≡ 10) → ((outcome : Outcome) → Finishes outcome ⊥ T out out report report' status) → Calls command left left' R W T out out report report' status
 want_calls command left left' R W T out report report' status at f = lacks (λ outcome. any_write outcome W T out out report report' status (f outcome)) at

@@ -1,1 +1,5 @@
 pub mod CallLemmas
+pub mod OneOutcome
+pub mod RunLemmas
+pub mod SomeOutcome
+pub mod StatsLemmas

@@ -1,3 +1,5 @@
+pub mod Reports
+pub mod Outcomes
 pub mod Commands
 pub mod Headline
-pub mod Written
+pub mod Told

@@ -1,20 +1,25 @@
 // The ends of a call: what is written, and the status.
-ghost use Rattle.std.specs.Prelude.{◌≡◌, ◌≢◌, ◌⊎◌, ◌<◌, ◌^◌, ◌-◌, ℕ, List, [], Option, None};
+ghost use Rattle.std.specs.Prelude.{◌≡◌, ◌≢◌, ◌⊎◌, ◌<◌, ◌^◌, ◌-◌, ℕ, List, Option, IfOk};
 ghost use Rattle.std.specs.Io.KnownBytes.{append_known};
 ghost use Rattle.st_base.specs.Streams.{Rose, GainsPrefix};
 ghost use Rattle.st_tree.specs.Numbers.{elements_in};
+ghost use Rattle.st_tree.specs.Units.{IsReadable};
 ghost use Rattle.sif_export.specs.ExportText.{export_text};
-ghost use Rattle.st_checks.specs.StaticRules.{first_break};
-ghost use Rattle.st_run.specs.Commands.{Outcome, usage_line, done, refused, unbuilt, of_rules, of_units, does};
-ghost use Rattle.st_run.specs.Headline.{Finishes, IsReported};
+ghost use Rattle.st_checks.specs.StaticRules.{first_break, MeetsRules};
+ghost use Rattle.st_words.specs.CommandLine.{IsInBounds};
+ghost use Rattle.st_run.specs.Outcomes.{Outcome, done, refused, usage, OfTask};
+ghost use Rattle.st_run.specs.Commands.{OfRules};
+ghost use Rattle.st_run.specs.Headline.{EndsBy, Finishes};
 
-use crate::report::{OUT_OF_MEMORY, USAGE, refusal, unbuilt};
-use crate::tasks::{Written, task_output};
+use crate::generating::generate;
+use crate::report::{OUT_OF_MEMORY, USAGE, refusal};
+use crate::running::run;
 use sif_export::export;
-use st_base::{Place, Reason, Sink, put_all};
+use st_answers::{listing, ok_line};
+use st_base::{OutOfMemory, Place, Reason, Sink, put_all};
 use st_checks::{CheckAnswer, check};
 use st_tree::units::Definition;
-use st_words::Task;
+use st_words::{Command, Task};
 use std::alloc::Global;
 
 // Reports a line, and answers the status, or that of a write fault.
@@ -38,7 +43,7 @@ pub fn report_want_of_memory<E: Sink>(report: &mut E) -> u8
 
 /// Reports that the words are no command.
 pub(crate) fn report_usage<E: Sink>(report: &mut E) -> u8
-    ensures { (out : Option (List ℕ)) → Finishes (does None []) ⊥ (Rose (E.faults report.old) (E.faults report.new)) out out (E.written report.old) (E.written report.new) result }
+    ensures { (out : Option (List ℕ)) → Finishes usage ⊥ (Rose (E.faults report.old) (E.faults report.new)) out out (E.written report.old) (E.written report.new) result }
 {
     tell(report, USAGE, 2)
 }
@@ -48,16 +53,6 @@ pub(crate) fn refuse<E: Sink>(alloc: Global, place: Place, reason: Reason, repor
     ensures { (out : Option (List ℕ)) → Finishes (refused place reason) ⊥ (Rose (E.faults report.old) (E.faults report.new)) out out (E.written report.old) (E.written report.new) result }
 {
     match refusal(alloc, place, reason) {
-        Ok(line) => tell(report, line.as_slice(), 1),
-        Err(_) => report_want_of_memory(report),
-    }
-}
-
-// Reports that the program can't yet be run.
-fn refuse_unbuilt<E: Sink>(alloc: Global, element: u32, report: &mut E) -> u8
-    ensures { (out : Option (List ℕ)) → Finishes (unbuilt element) ⊥ (Rose (E.faults report.old) (E.faults report.new)) out out (E.written report.old) (E.written report.new) result }
-{
-    match unbuilt(alloc, element) {
         Ok(line) => tell(report, line.as_slice(), 1),
         Err(_) => report_want_of_memory(report),
     }
@@ -83,38 +78,70 @@ fn write_text<K: Sink>(out: &mut K, definition: &Definition) -> u8
     }
 }
 
-/// Does a task with a program that meets the static rules.
-fn perform<K: Sink, E: Sink>(
-    alloc: Global,
-    task: Task,
-    definition: &Definition,
+// Writes a text that is made, and answers the status.
+fn write_made<K: Sink, E: Sink>(
+    made: Result<Vec<u8>, OutOfMemory>,
     out: &mut K,
     report: &mut E,
 ) -> u8
-    requires { elements_in definition.now.units < 2 ^ 32 - 1 }
-    ensures { Finishes (of_units task definition.now.units) (Rose (K.faults out.old) (K.faults out.new)) (Rose (E.faults report.old) (E.faults report.new)) (K.written out.old) (K.written out.new) (E.written report.old) (E.written report.new) result }
+    ensures { (text : List ℕ) → IfOk made (λ bytes. bytes.items ≡ text) → Finishes (done text) (Rose (K.faults out.old) (K.faults out.new)) (Rose (E.faults report.old) (E.faults report.new)) (K.written out.old) (K.written out.new) (E.written report.old) (E.written report.new) result }
 {
-    match task_output(alloc, task, definition) {
-        Ok(Written::Output(bytes)) => write_out(out, bytes.as_slice()),
-        Ok(Written::Exported) => write_text(out, definition),
-        Ok(Written::UnbuiltAt(element)) => refuse_unbuilt(alloc, element, report),
+    match made {
+        Ok(bytes) => write_out(out, bytes.as_slice()),
         Err(_) => report_want_of_memory(report),
     }
 }
 
-/// Does a task with a program that was read, or reports its first break of the static rules.
-pub(crate) fn judge<K: Sink, E: Sink>(
+// Does a task with a program that meets the static rules, of a file of so many bytes.
+fn perform<K: Sink, E: Sink>(
     alloc: Global,
-    task: Task,
+    command: Command,
+    bytes: usize,
     definition: Definition,
     out: &mut K,
     report: &mut E,
 ) -> u8
-    requires { elements_in definition.units < 2 ^ 32 - 1 }
-    ensures { Finishes (of_rules task definition.units (first_break definition.units)) (Rose (K.faults out.old) (K.faults out.new)) (Rose (E.faults report.old) (E.faults report.new)) (K.written out.old) (K.written out.new) (E.written report.old) (E.written report.new) result }
+    requires readable { IsReadable definition.units }
+    requires meets { MeetsRules definition.units }
+    requires few { elements_in definition.units < 2 ^ 32 - 1 }
+    requires bounds { IsInBounds command }
+    ensures { EndsBy (OfTask command.task command definition.units bytes) (Rose (K.faults out.old) (K.faults out.new)) (Rose (E.faults report.old) (E.faults report.new)) (K.written out.old) (K.written out.new) (E.written report.old) (E.written report.new) result }
+{
+    match command.task {
+        Task::Run => run(alloc, command, definition, out, report),
+        Task::Check => write_made(ok_line(alloc, &definition), out, report),
+        Task::List => write_made(listing(alloc, definition.units.as_slice()), out, report),
+        Task::Export => write_text(out, &definition),
+        Task::Gen => generate(alloc, command, bytes, definition, out, report),
+    }
+}
+
+/// Does a task with a program that was read, of a file of so many bytes, or reports its first break
+/// of the static rules.
+pub(crate) fn judge<K: Sink, E: Sink>(
+    alloc: Global,
+    command: Command,
+    bytes: usize,
+    definition: Definition,
+    out: &mut K,
+    report: &mut E,
+) -> u8
+    requires readable { IsReadable definition.units }
+    requires few { elements_in definition.units < 2 ^ 32 - 1 }
+    requires bounds { IsInBounds command }
+    ensures { EndsBy (OfRules command definition.units bytes (first_break definition.units)) (Rose (K.faults out.old) (K.faults out.new)) (Rose (E.faults report.old) (E.faults report.new)) (K.written out.old) (K.written out.new) (E.written report.old) (E.written report.new) result }
 {
     match check(alloc, definition) {
-        CheckAnswer::Checked(checked) => perform(alloc, task, checked.definition(), out, report),
+        CheckAnswer::Checked(checked) => {
+            perform(
+                alloc,
+                command,
+                bytes,
+                checked.into_definition(),
+                out,
+                report,
+            )
+        }
         CheckAnswer::Refused(place, reason) => refuse(alloc, place, reason, report),
         CheckAnswer::OutOfMemory => report_want_of_memory(report),
     }

@@ -3,11 +3,14 @@
 #![tactic(auto)]
 
 mod finish;
+mod generating;
+mod law;
 mod report;
-mod tasks;
+mod running;
 mod top;
 
 pub use finish::report_want_of_memory;
+pub use law::each_command_has_one_outcome;
 pub use top::stx;
 
 #[cfg(test)]

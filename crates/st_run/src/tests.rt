@@ -45,28 +45,34 @@ fn calls(alloc: Global, failing: Option<u64>) -> Result<Vec<u64>, Fail> {
     Ok(calls)
 }
 
-// Runs a word, or no words where it is empty, over an input in memory, and compares all that comes of it.
+// The words of a line.
+fn words_of(alloc: Global, line: &str) -> Result<Vec<String>, Fail> {
+    let mut words = Vec::new(alloc);
+    for word in line.split_whitespace() {
+        words.push(String::from_str(alloc, word)?)?;
+    }
+    Ok(words)
+}
+
+// Runs the words of a line over an input in memory, and compares all that comes of it.
 fn check(
     rt: &impl Abort,
     alloc: Global,
-    word: &str,
+    line: &str,
     input: &[u8],
     devices: Devices,
     wanted: Wanted,
 ) -> Result<(), Fail> {
-    let mut words = Vec::new(alloc);
-    if !word.is_empty() {
-        words.push(String::from_str(alloc, word)?)?;
-    }
+    let words = words_of(alloc, line)?;
     let cuts = vec![in alloc; devices.piece; devices.pieces]?;
     let failing = calls(alloc, devices.source_fails)?;
     let mut source = MemorySource::new(Vec::from_slice(alloc, input)?, cuts, failing);
     let mut out = MemorySink::new(alloc, 1000, calls(alloc, devices.out_fails)?)?;
     let mut report = MemorySink::new(alloc, 1000, calls(alloc, devices.report_fails)?)?;
     let status = stx(alloc, &words, &mut source, &mut out, &mut report);
-    assert_eq!(rt; status, wanted.status, "of {word}");
-    assert!(rt; out.written() == wanted.out, "output of {word}");
-    assert!(rt; report.written() == wanted.report, "report of {word}");
+    assert_eq!(rt; status, wanted.status, "of {line}");
+    assert!(rt; out.written() == wanted.out, "output of {line}");
+    assert!(rt; report.written() == wanted.report, "report of {line}");
     let faults = source
         .faults()
         .saturating_add(out.faults())
@@ -175,27 +181,11 @@ fn bodies_are_shown_or_refused(rt: HostRuntime) -> Result<(), Fail> {
             wanted: refused(b"stx: refused element 3 byte 0 IntegerTooLarge\n"),
         },
         Row {
-            body: b"3 + 4!Global initializer!Transcript cr!",
-            wanted: refused(b"stx: refused element 3 byte 0 Unbuilt\n"),
-        },
-        Row {
-            body: b"| a | Transcript cr!",
-            wanted: refused(b"stx: refused element 3 byte 0 Unbuilt\n"),
-        },
-        Row {
-            body: b"Transcript show: ('a')!",
-            wanted: refused(b"stx: refused element 3 byte 0 Unbuilt\n"),
-        },
-        Row {
             body: b"Transcript show: zork!",
             wanted: refused(b"stx: refused element 3 byte 17 UndeclaredName\n"),
         },
         Row {
             body: b"Transcript show: zork!Global initializer!3 +!",
-            wanted: refused(b"stx: refused element 5 byte 3 Syntax\n"),
-        },
-        Row {
-            body: b"3 + 4!Global initializer!3 +!",
             wanted: refused(b"stx: refused element 5 byte 3 Syntax\n"),
         },
     ];
@@ -210,6 +200,151 @@ fn bodies_are_shown_or_refused(rt: HostRuntime) -> Result<(), Fail> {
         &deep,
         refused(b"stx: refused element 3 byte 200 TooDeep\n"),
     )
+}
+
+// Words, a program behind the version, and what comes of them.
+#[derive(Clone, Copy)]
+struct Run {
+    words: &'static str,
+    program: &'static [u8],
+    wanted: Wanted<'static>,
+}
+
+const RETURNS: &[u8] =
+    b"Global initializer!Transcript show: ([Error signal. 1] on: Error do: [:e | 7]) printString!";
+
+const RETRIES: &[u8] =
+    b"Global initializer!| n | n := 0. [[n := n + 1. n < 3 ifTrue: [Error signal]. n] ensure: [Transcript show: 'x']] on: Error do: [:e | e retry]. Transcript show: n printString!";
+
+const ENDS: &[u8] =
+    b"Global initializer![[Error signal] ensure: [Transcript show: 'a']] ensure: [Transcript show: 'b']!";
+
+const GREETS: &[u8] = b"Global initializer!Transcript show: 'hi'; cr!";
+
+fn wanted(status: u8, out: &'static [u8], report: &'static [u8]) -> Wanted<'static> {
+    Wanted {
+        status,
+        out,
+        report,
+        faults: 0,
+    }
+}
+
+fn run_of(words: &'static str, program: &'static [u8], wanted: Wanted<'static>) -> Run {
+    Run {
+        words,
+        program,
+        wanted,
+    }
+}
+
+// Each ending of a run once, with its report.
+#[test]
+fn runs_end_with_their_status(rt: HostRuntime) -> Result<(), Fail> {
+    let alloc = rt.alloc();
+    let runs = [
+        run_of(
+            "run --stats",
+            GREETS,
+            wanted(0, b"hi\n", b"stx: steps 2 depth 1 cells 0 instructions 7\n"),
+        ),
+        run_of(
+            "run --stats",
+            RETURNS,
+            wanted(0, b"7", b"stx: steps 6 depth 6 cells 8 instructions 12\n"),
+        ),
+        run_of(
+            "run",
+            ENDS,
+            wanted(3, b"ab", b"stx: unhandled Error: Error\n"),
+        ),
+        run_of(
+            "run --steps 34",
+            RETRIES,
+            wanted(4, b"xxx", b"stx: step limit 34\n"),
+        ),
+        run_of("run --steps 35", RETRIES, wanted(0, b"xxx3", b"")),
+        run_of(
+            "run --depth 5",
+            RETURNS,
+            wanted(5, b"", b"stx: depth limit 5\n"),
+        ),
+        run_of(
+            "run --cells 7",
+            RETURNS,
+            wanted(6, b"", b"stx: cell limit 7\n"),
+        ),
+        run_of(
+            "run",
+            b"Global initializer!170141183460469231731687303715884105727 + 1!",
+            wanted(7, b"", b"stx: integer limit\n"),
+        ),
+        run_of(
+            "gen --seed 0 --size 1",
+            b"",
+            wanted(0, b"gen units 4 bytes 369 transcript 2 steps 9\n", b""),
+        ),
+        run_of(
+            "gen --seed 50 --size 1",
+            b"",
+            wanted(0, b"gen units 4 bytes 370 transcript 3 steps 13\n", b""),
+        ),
+        run_of(
+            "gen --seed 0 --size 1",
+            GREETS,
+            wanted(0, b"gen units 5 bytes 414 transcript 5 steps 11\n", b""),
+        ),
+        run_of(
+            "gen --size 1",
+            ENDS,
+            wanted(3, b"", b"stx: unhandled Error: Error\n"),
+        ),
+    ];
+    for run in &runs {
+        let mut input = Vec::from_slice(alloc, VERSION)?;
+        input.extend_from_slice(run.program)?;
+        for pieces in [0, 400] {
+            let devices = Devices { pieces, ..WHOLE };
+            check(&rt, alloc, run.words, &input, devices, run.wanted)?;
+        }
+    }
+    Ok(())
+}
+
+// The output and the report of a run fail at each call in turn: what was written before stands.
+#[test]
+fn a_run_stops_where_a_write_fails(rt: HostRuntime) -> Result<(), Fail> {
+    let alloc = rt.alloc();
+    let mut input = Vec::from_slice(alloc, VERSION)?;
+    input.extend_from_slice(ENDS)?;
+    let report: &[u8] = b"stx: unhandled Error: Error\n";
+    for (call, out) in [(0, b"".as_slice()), (1, b"a".as_slice())] {
+        let devices = Devices {
+            out_fails: Some(call),
+            ..WHOLE
+        };
+        let stopped = Wanted {
+            status: 9,
+            out,
+            report: b"",
+            faults: 1,
+        };
+        check(&rt, alloc, "run", &input, devices, stopped)?;
+    }
+    for (call, length) in [(0, 0), (1, 15), (2, 20), (3, 22), (4, 27)] {
+        let devices = Devices {
+            report_fails: Some(call),
+            ..WHOLE
+        };
+        let stopped = Wanted {
+            status: 9,
+            out: b"ab",
+            report: report.get(..length).ok_or("short")?,
+            faults: 1,
+        };
+        check(&rt, alloc, "run", &input, devices, stopped)?;
+    }
+    Ok(())
 }
 
 #[derive(Clone, Copy)]

@@ -1,5 +1,4 @@
 use Rattle.std.proofs.Common.{refl}
-use Rattle.st_run.specs.Commands.{does}
 use Rattle.st_run.proofs.CallLemmas.{tells}
 use Rattle.st_run.proofs.finish.report_usage.Goals as goal
 

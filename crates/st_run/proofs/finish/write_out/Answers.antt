@@ -1,4 +1,3 @@
-use Rattle.std.proofs.Common.{refl}
 use Rattle.st_run.proofs.CallLemmas.{writes_all, writes_part}
 use Rattle.st_run.proofs.finish.write_out.Goals as goal
 

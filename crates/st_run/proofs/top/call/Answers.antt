@@ -4,4 +4,4 @@ use Rattle.st_run.proofs.CallLemmas.{usage_calls}
 use Rattle.st_run.proofs.top.call.Goals as goal
 
 pub returns-in-Ok-None : goal.returns-in-Ok-None
-returns-in-Ok-None g c = usage_calls _ _ _ _ _ _ _ _ _ _ (sym c.in-Ok-None.ensures ∙ c.in-Ok-None.field-0-is) (c.report_usage.ensures _)
+returns-in-Ok-None g c = usage_calls _ _ _ _ _ _ _ _ _ _ (sym c.in-Ok-None.ensures.command ∙ c.in-Ok-None.field-0-is) (c.report_usage.ensures _)

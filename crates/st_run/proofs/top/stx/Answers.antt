@@ -1,5 +1,5 @@
 -- What is said of the call by how it ended.
-use Rattle.st_run.proofs.CallLemmas.{done_of, end_of, fault_of, fault_cause, fault_open, write_of, write_cause_of, want_of, complete_of, valid_of}
+use Rattle.st_run.proofs.CallLemmas.{done_of, write_of, write_cause_of, want_of, complete_of, valid_of}
 use Rattle.st_run.proofs.top.stx.Goals as goal
 
 pub returns-clause-done : goal.returns-clause-done

@@ -1,0 +1,74 @@
+-- Each command has an outcome for each input: each program has a run by the rules, and the flat machine makes it.
+use Rattle.std.proofs.Common.{inl, inr, ℕ, List, length, Option, None, Some, refl, arith}
+use Rattle.st_tree.specs.declared.units.Unit as unit
+use Rattle.sif_elements.specs.Reading.{Answer, Read, Refuse}
+use Rattle.sif_elements.specs.Steps.{reading}
+use Rattle.st_checks.specs.StaticRules.{Break, first_break}
+use Rattle.st_code.specs.Written.{named_units}
+use Rattle.program_image.specs.Spelled.{names_in}
+use Rattle.st_rules.specs.State.{State, StepLimit, DepthLimit, CellLimit, IntegerLimit}
+use Rattle.st_rules.specs.Runs.{Ending, Done, Unhandled, AtLimit, Stuck}
+use Rattle.st_rules.proofs.SomeRun.{rules_end}
+use Rattle.st_rules.proofs.SameRun.{flat_run_is_the_rules_run}
+use Rattle.st_words.specs.declared.command.Command.{Command}
+use Rattle.st_words.specs.declared.command.Task.{Task}
+use Rattle.st_words.specs.declared.command.Task.TheVariants as task
+use Rattle.st_answers.specs.Listing.{ok_line, listing}
+use Rattle.sif_export.specs.ExportText.{export_text}
+use Rattle.st_run.specs.Outcomes.{Outcome, done, refused, usage, program_for, ending_status, transcript, summary, ended, IsOfRun, OfTask, IsEnding, DoneBy}
+use Rattle.st_run.specs.Commands.{place_at, OfRules, OfAnswer, SomeOutcome, file_of}
+
+pub some_of_run : (c : Command) (us : List unit.Unit) (output : Ending → State → List ℕ) → (o : Outcome) × IsOfRun c us output o
+some_of_run c us output =
+    let p = program_for c us in
+    let r = rules_end p in
+    let m = (flat_run_is_the_rules_run (names_in (named_units us)) (named_units us) (record { steps = c.limits.steps; depth = c.limits.depth; cells = c.limits.cells })).of_the_rules r.0 r.1 r.2 in (
+      ended c us r.0 r.1 m.1 (output r.0 r.1),
+      record {
+        ending = r.0;
+        state = r.1;
+        instructions = m.1;
+        run = record { by_the_rules = r.2; state = m.0; by_the_machine = m.2 };
+        outcome = refl;
+      },
+    )
+
+pub some_of_task : (t : Task) (c : Command) (us : List unit.Unit) (bytes : ℕ) → (o : Outcome) × OfTask t c us bytes o
+some_of_task task.Run c us bytes = some_of_run c us transcript
+some_of_task task.Check c us bytes = (done (ok_line us), refl)
+some_of_task task.List c us bytes = (done (listing us), refl)
+some_of_task task.Export c us bytes = (done (export_text us), refl)
+some_of_task task.Gen c us bytes = some_of_run c us (summary us bytes)
+
+pub some_of_rules : (c : Command) (us : List unit.Unit) (bytes : ℕ) (b : Option Break) → (o : Outcome) × OfRules c us bytes b o
+some_of_rules c us bytes None = some_of_task c.task c us bytes
+some_of_rules c us bytes (Some b) = (refused b.place b.reason, refl)
+
+some_of_answer : (c : Command) (bytes : ℕ) (a : Answer) → (o : Outcome) × OfAnswer c bytes a o
+some_of_answer c bytes (Refuse element byte why) = (refused (place_at element byte) why, refl)
+some_of_answer c bytes (Read us) = some_of_rules c us bytes (first_break us)
+
+pub some_outcome : SomeOutcome
+some_outcome None bytes = (usage, refl)
+some_outcome (Some c) bytes = some_of_answer c (length (file_of c bytes)) (reading (file_of c bytes))
+
+-- ---- statuses
+
+ending_is : (e : Ending) → IsEnding (ending_status e)
+ending_is Done = inl refl
+ending_is (Unhandled v) = inr (omega arith, omega arith)
+ending_is (AtLimit StepLimit) = inr (omega arith, omega arith)
+ending_is (AtLimit DepthLimit) = inr (omega arith, omega arith)
+ending_is (AtLimit CellLimit) = inr (omega arith, omega arith)
+ending_is (AtLimit IntegerLimit) = inr (omega arith, omega arith)
+ending_is Stuck = inr (omega arith, omega arith)
+
+run_status : (c : Command) (us : List unit.Unit) (output : Ending → State → List ℕ) (o : Outcome) → IsOfRun c us output o → IsEnding o.status
+run_status c us output o r = rw r.outcome (ending_is r.ending)
+
+pub of_task_status : (t : Task) (c : Command) (us : List unit.Unit) (bytes : ℕ) (o : Outcome) → OfTask t c us bytes o → DoneBy t o.status
+of_task_status task.Run c us bytes o is = run_status c us transcript o is
+of_task_status task.Check c us bytes o is = rw is refl
+of_task_status task.List c us bytes o is = rw is refl
+of_task_status task.Export c us bytes o is = rw is refl
+of_task_status task.Gen c us bytes o is = run_status c us (summary us bytes) o is
