@@ -1,3 +1,3 @@
 pub mod Rooms
 pub mod Readiness
-pub mod Positions
+pub mod Counts

@@ -1,13 +1,12 @@
 -- A machine that is opened is ready.
-use Rattle.std.proofs.Common.{◌≡◌, ℕ, ◌≤◌, List, [], ◌∷◌, map, refl, ap, ◌∙◌, arith}
+use Rattle.std.proofs.Common.{◌≡◌, ◌≤◌, List, [], ◌∷◌, map, refl, ap, arith}
 use Rattle.st_base.specs.declared.faults.Limits.{Limits}
 use Rattle.st_tree.specs.declared.units.Unit.{Unit}
-use Rattle.st_code.specs.Program.{Program, Initializer as Starter}
+use Rattle.st_code.specs.Program.{Initializer as Starter}
 use Rattle.st_code.specs.Compiled.{compile_of}
 use Rattle.st_code.specs.Definitions.{program_of}
 use Rattle.st_rules.specs.Flat.{greatest_width}
 use Rattle.st_rules.specs.Runs.{first_state}
-use Rattle.st_machine.specs.Followed.{Ready}
 use Rattle.st_machine.specs.Initializers.{seen_initializer}
 use Rattle.st_machine.specs.Meaning.{behind}
 use Rattle.st_machine.specs.Plans.{program_from, initializer_of}

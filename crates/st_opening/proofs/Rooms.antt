@@ -1,11 +1,11 @@
 -- Compiled codes have room for the arguments of each send and for the variables of each body.
-use Rattle.std.proofs.Common.{◌≡◌, ℕ, zero, suc, ◌+◌, ◌-◌, ◌<◌, ◌≤◌, max, Bool, true, false, List, [], ◌∷◌, map, length, get_or, Option, Some, None, nat_lt, slice_get, if◌then◌else◌, refl, ap, sym, ◌∙◌, subst, arith}
+use Rattle.std.proofs.Common.{◌≡◌, ℕ, zero, suc, ◌+◌, ◌-◌, ◌<◌, ◌≤◌, Bool, true, false, List, [], ◌∷◌, map, Some, nat_lt, slice_get, if◌then◌else◌, refl, sym, subst, arith}
 use Rattle.std.proofs.lemmas.Bool.{ltb-true, ltb-false}
 use Rattle.std.proofs.lemmas.Option.{slice_get_past}
 use Rattle.st_code.specs.declared.instruction.Instruction.{Instruction}
 use Rattle.st_code.specs.declared.instruction.Instruction.TheVariants as instruction
 use Rattle.st_code.specs.Program.{Program, Tree, Constant, Self, Variable, Assign, Block, Send, SuperSend, Cascade, SuperCascade, Trees, no_trees, more_trees, Messages, no_messages, more_messages, Statement, Plain, Return, Kind, InMethod, InBlock, InInitializer, Body}
-use Rattle.st_code.specs.Code.{Instr, SendMessage, SendSuper, Store, Pop, count_of, dup_for, pop_for, code, code_args, code_messages, return_of, end_code, code_on, code_body}
+use Rattle.st_code.specs.Code.{Instr, SendMessage, SendSuper, Store, Pop, count_of, code, code_args, code_messages, return_of, end_code, code_on, code_body}
 use Rattle.st_code.specs.Compiled.{Compiled, compile_of, compiled_from, compiled_body, instruction_of, stand_after, most_standing, count_uncaptured}
 use Rattle.st_rules.specs.Flat.{code_at, greatest_width}
 use Rattle.st_machine.specs.Followed.{CountFits, Roomy}

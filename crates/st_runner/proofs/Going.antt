@@ -1,5 +1,5 @@
 -- A machine between two calls that run it on: what it has done, and that less is left after each.
-use Rattle.std.proofs.Common.{◌≡◌, ℕ, zero, suc, ◌+◌, ◌-◌, ◌^◌, ◌<◌, ◌≤◌, List, [], ◌∷◌, ◌++◌, take, length, Option, Some, None, refl, ap, sym, ◌∙◌, subst, arith}
+use Rattle.std.proofs.Common.{◌≡◌, ℕ, suc, ◌+◌, ◌-◌, ◌^◌, ◌<◌, [], ◌∷◌, ◌++◌, take, length, Option, Some, None, refl, ap, sym, ◌∙◌, subst, arith}
 use Rattle.std.proofs.lemmas.List.{append-nil, append_assoc}
 use Rattle.std.specs.Io.KnownBytes.{append_known}
 use Rattle.st_base.specs.Streams.{GainsPrefix, Rose}
@@ -7,19 +7,21 @@ use Rattle.st_code.specs.Texts.{Text}
 use Rattle.st_machine.specs.declared.work.Ending.{Ending}
 use Rattle.st_machine.specs.declared.work.Mode.{Mode}
 use Rattle.st_machine.specs.declared.work.Mode.TheVariants as mode
-use Rattle.st_machine.specs.declared.running.Progress.{Progress}
 use Rattle.st_machine.specs.declared.running.Progress.TheVariants as progress
-use Rattle.st_machine.specs.Seen.{Plan, Seen}
-use Rattle.st_machine.specs.Steps.{first_seen}
+use Rattle.st_machine.specs.Meaning.{ending_of}
+use Rattle.st_machine.specs.Plans.{program_in}
+use Rattle.st_machine.specs.Seen.{Seen}
 use Rattle.st_machine.specs.Running.{gone, gone_written, progress_of}
 use Rattle.st_machine.proofs.Follows.{follows}
 use Rattle.st_machine_laws.specs.Moments.{after, written_by}
-use Rattle.st_machine_laws.specs.WholeRun.{Opened, EndsAsTheRules}
 use Rattle.st_machine_laws.proofs.Moments.{IsOver}
 use Rattle.st_machine_laws.proofs.Gone.{Gone, gone_so, after_after, written_after, left_in, left_falls, over_after}
 use Rattle.st_machine_laws.proofs.StepLaw.{step_law}
-use Rattle.st_machine_laws.proofs.WholeRun.{bound_of, over_within, ends_so}
-use Rattle.st_runner.specs.RunToEnd.{IsFirst, RanToEnd, BrokeOff}
+use Rattle.st_machine_laws.proofs.WholeRun.{bound_of, over_within}
+use Rattle.st_steady.specs.Steady.{EndsSo}
+use Rattle.st_runner.specs.Firsts.{IsFirst}
+use Rattle.st_runner.specs.RunToEnd.{EndsAs, StopsAs}
+use Rattle.st_runner.proofs.Ending.{ended, stopped}
 
 -- ---- bytes
 
@@ -69,7 +71,7 @@ running_is (mode.Settle o) is over = over
 running_is (mode.Begin w) is over = over
 running_is mode.Next is over = over
 
-ended_is : (m : Mode) (e : Ending) → progress.Ended e ≡ progress_of m → m ≡ mode.Ended e
+pub ended_is : (m : Mode) (e : Ending) → progress.Ended e ≡ progress_of m → m ≡ mode.Ended e
 ended_is (mode.Ended x) e is =
     let same : e ≡ x = cc in
     ap (λ y. mode.Ended y) (sym same)
@@ -107,28 +109,26 @@ module _ (s0 s : Seen) (before now : Option Text) (faults faults' : ℕ) (first 
       let less : left_in (bound_of s0.plan) (after call.count s) < left_in (bound_of s0.plan) s = left_falls call.count (bound_of s0.plan) s some g.on still in
       subst (λ t. left_in (bound_of s0.plan) t < left_in (bound_of s0.plan) s) (sym (is ∙ call.is)) less
 
-  pub ends : (s' : Seen) (e : Ending) (now' : Option Text) (faults'' : ℕ) → s' ≡ gone most most s → progress.Ended e ≡ progress_of s'.mode → now' ≡ append_known now (gone_written most most s) → faults'' ≡ faults' → RanToEnd s0 s' e before now' faults faults''
-  ends s' e now' faults'' is ended wrote sound =
+  -- the run is over
+  pub ends_as : EndsSo → (s' : Seen) (e : Ending) (now' : Option Text) → s' ≡ gone most most s → progress.Ended e ≡ progress_of s'.mode → now' ≡ append_known now (gone_written most most s) → EndsAs (program_in s0.plan) (ending_of e) s' before now'
+  ends_as law s' e now' is finished wrote =
       let here : s' ≡ after (g.count + call.count) s0 = is ∙ moved in
-      let last : s'.mode ≡ mode.Ended e = ended_is s'.mode e ended in
-      let there : (after (g.count + call.count) (first_seen s0.plan s0.memory)).mode ≡ mode.Ended e = ap (λ (t : Seen). (after (g.count + call.count) t).mode) (sym first.first) ∙ ap (λ (t : Seen). t.mode) (sym here) ∙ last in
-      record {
-        steps = g.count + call.count;
-        ran = here;
-        ended = last;
-        follows = λ other. subst (λ t. EndsAsTheRules s0.plan t (g.count + call.count) e) (sym first.first) (ends_so s0.plan s0.memory first.opened (step_law s0.plan follows) (g.count + call.count) e there other);
-        wrote = written now' wrote;
-        sound = sound ∙ g.sound;
-      }
+      let last : (after (g.count + call.count) s0).mode ≡ mode.Ended e = ap (λ (t : Seen). t.mode) (sym here) ∙ ended_is s'.mode e finished in
+      subst (λ (t : Seen). EndsAs (program_in s0.plan) (ending_of e) t before now') (sym here) (ended s0 first law (g.count + call.count) e before now' last (written now' wrote))
 
-  pub breaks : (now' : Option Text) (faults'' : ℕ) → GainsPrefix now now' (gone_written most most s) → Rose faults' faults'' → BrokeOff s0 before now' faults faults''
-  breaks now' faults'' part cause =
-      record {
-        steps = g.count + call.count;
-        part = (
-          length (written_by g.count s0) + part.0,
-          part.1 ∙ ap (λ b. append_known b (take part.0 (gone_written most most s))) g.wrote ∙ known_more before (written_by g.count s0) (take part.0 (gone_written most most s))
-              ∙ ap (λ t. append_known before t) (take_behind (written_by g.count s0) (gone_written most most s) part.0 ∙ ap (λ t. take (length (written_by g.count s0) + part.0) t) texts),
-        );
-        cause = subst (λ n. Rose n faults'') g.sound cause;
-      }
+  -- the sink failed
+  part_of : (now' : Option Text) → GainsPrefix now now' (gone_written most most s) → GainsPrefix before now' (written_by (g.count + call.count) s0)
+  part_of now' part = (
+    length (written_by g.count s0) + part.0,
+    part.1 ∙ ap (λ b. append_known b (take part.0 (gone_written most most s))) g.wrote ∙ known_more before (written_by g.count s0) (take part.0 (gone_written most most s))
+        ∙ ap (λ t. append_known before t) (take_behind (written_by g.count s0) (gone_written most most s) part.0 ∙ ap (λ t. take (length (written_by g.count s0) + part.0) t) texts),
+  )
+
+  pub stops_as : (now' : Option Text) → GainsPrefix now now' (gone_written most most s) → StopsAs (program_in s0.plan) before now'
+  stops_as now' part = stopped s0 first (g.count + call.count) before now' (part_of now' part)
+
+  pub kept_of : (faults'' : ℕ) → faults'' ≡ faults' → faults'' ≡ faults
+  kept_of faults'' kept = kept ∙ g.sound
+
+  pub cause_of : (faults'' : ℕ) → Rose faults' faults'' → Rose faults faults''
+  cause_of faults'' cause = subst (λ n. Rose n faults'') g.sound cause

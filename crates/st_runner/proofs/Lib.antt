@@ -1,1 +1,4 @@
+pub mod Firsts
+pub mod Ending
 pub mod Going
+pub mod Unhandled
