@@ -221,7 +221,7 @@ const ENDS: &[u8] =
 
 const GREETS: &[u8] = b"Global initializer!Transcript show: 'hi'; cr!";
 
-fn wanted(status: u8, out: &'static [u8], report: &'static [u8]) -> Wanted<'static> {
+fn comes_to(status: u8, out: &'static [u8], report: &'static [u8]) -> Wanted<'static> {
     Wanted {
         status,
         out,
@@ -246,58 +246,58 @@ fn runs_end_with_their_status(rt: HostRuntime) -> Result<(), Fail> {
         run_of(
             "run --stats",
             GREETS,
-            wanted(0, b"hi\n", b"stx: steps 2 depth 1 cells 0 instructions 7\n"),
+            comes_to(0, b"hi\n", b"stx: steps 2 depth 1 cells 0 instructions 7\n"),
         ),
         run_of(
             "run --stats",
             RETURNS,
-            wanted(0, b"7", b"stx: steps 6 depth 6 cells 8 instructions 12\n"),
+            comes_to(0, b"7", b"stx: steps 6 depth 6 cells 8 instructions 12\n"),
         ),
         run_of(
             "run",
             ENDS,
-            wanted(3, b"ab", b"stx: unhandled Error: Error\n"),
+            comes_to(3, b"ab", b"stx: unhandled Error: Error\n"),
         ),
         run_of(
             "run --steps 34",
             RETRIES,
-            wanted(4, b"xxx", b"stx: step limit 34\n"),
+            comes_to(4, b"xxx", b"stx: step limit 34\n"),
         ),
-        run_of("run --steps 35", RETRIES, wanted(0, b"xxx3", b"")),
+        run_of("run --steps 35", RETRIES, comes_to(0, b"xxx3", b"")),
         run_of(
             "run --depth 5",
             RETURNS,
-            wanted(5, b"", b"stx: depth limit 5\n"),
+            comes_to(5, b"", b"stx: depth limit 5\n"),
         ),
         run_of(
             "run --cells 7",
             RETURNS,
-            wanted(6, b"", b"stx: cell limit 7\n"),
+            comes_to(6, b"", b"stx: cell limit 7\n"),
         ),
         run_of(
             "run",
             b"Global initializer!170141183460469231731687303715884105727 + 1!",
-            wanted(7, b"", b"stx: integer limit\n"),
+            comes_to(7, b"", b"stx: integer limit\n"),
         ),
         run_of(
             "gen --seed 0 --size 1",
             b"",
-            wanted(0, b"gen units 4 bytes 369 transcript 2 steps 9\n", b""),
+            comes_to(0, b"gen units 4 bytes 369 transcript 2 steps 9\n", b""),
         ),
         run_of(
             "gen --seed 50 --size 1",
             b"",
-            wanted(0, b"gen units 4 bytes 370 transcript 3 steps 13\n", b""),
+            comes_to(0, b"gen units 4 bytes 370 transcript 3 steps 13\n", b""),
         ),
         run_of(
             "gen --seed 0 --size 1",
             GREETS,
-            wanted(0, b"gen units 5 bytes 414 transcript 5 steps 11\n", b""),
+            comes_to(0, b"gen units 5 bytes 414 transcript 5 steps 11\n", b""),
         ),
         run_of(
             "gen --size 1",
             ENDS,
-            wanted(3, b"", b"stx: unhandled Error: Error\n"),
+            comes_to(3, b"", b"stx: unhandled Error: Error\n"),
         ),
     ];
     for run in &runs {
