@@ -6,11 +6,13 @@ mod names;
 mod watcher;
 
 use anyhow::Result;
-use names::{name_of_ending, put_event};
+use cell_heap::CellHeap;
+use names::{name_of, put_event};
 use sif_elements::reading::{ReadAnswer, read_definition};
-use st_base::{Limits, MemorySink, MemorySource};
+use st_base::{Limits, MemorySink, MemorySource, OutOfMemory};
 use st_checks::{CheckAnswer, check};
-use st_machine::Progress;
+use st_contexts::Event;
+use st_machine::{Machine, Progress};
 use st_opening::open;
 use st_tree::units::Definition;
 use std::alloc::AllocError;
@@ -40,23 +42,33 @@ fn definition_of(rt: &HostRuntime, text: &[u8]) -> Result<Option<Definition>> {
     }
 }
 
+// A machine at the beginning of a program's run.
+fn opened(
+    rt: &HostRuntime,
+    definition: Definition,
+    limits: Limits,
+) -> Result<Machine<CellHeap>, OutOfMemory> {
+    open(rt.alloc(), definition, limits)
+}
+
+// Events, and how far a run has come, in one line.
+fn line_of(rt: &HostRuntime, events: &[Event], progress: Progress) -> Result<String> {
+    let mut line = String::new(rt.alloc());
+    for event in events {
+        put_event(&mut line, *event)?;
+    }
+    line.push_str(name_of(progress))?;
+    Ok(line)
+}
+
 // The events of a run, and how it ended, in one line.
 fn watch(rt: &HostRuntime, definition: Definition) -> Result<String> {
     let alloc = rt.alloc();
-    let mut machine = open(alloc, definition, LIMITS).map_err(|_| AllocError)?;
+    let mut machine = opened(rt, definition, LIMITS).map_err(|_| AllocError)?;
     let mut out = MemorySink::new(alloc, ROOM, Vec::new(alloc)).map_err(|_| AllocError)?;
     let mut watcher = Watcher::new(alloc);
-    let progress = machine.go_watched(u64::MAX, &mut out, &mut watcher);
-    let mut line = String::new(alloc);
-    for event in watcher.events() {
-        put_event(&mut line, *event)?;
-    }
-    match progress {
-        Progress::Ended(ending) => line.push_str(name_of_ending(ending))?,
-        Progress::Running => line.push_str("running")?,
-        Progress::WriteFault => line.push_str("write fault")?,
-    }
-    Ok(line)
+    let progress = watcher.watch(&mut machine, &mut out);
+    line_of(rt, watcher.events(), progress)
 }
 
 fn main(rt: HostRuntime) -> Result<()> {

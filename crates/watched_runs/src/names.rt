@@ -2,7 +2,7 @@
 
 use itoa::Buffer;
 use st_contexts::Event;
-use st_machine::Ending;
+use st_machine::{Ending, Progress};
 use std::alloc::AllocError;
 
 // What an event is called.
@@ -75,8 +75,8 @@ pub fn put_event(line: &mut String, event: Event) -> Result<(), AllocError> {
     line.push_str(", ")
 }
 
-/// How a run ended, in words.
-pub fn name_of_ending(ending: Ending) -> &'static str {
+// How a run ended, in words.
+fn name_of_ending(ending: Ending) -> &'static str {
     match ending {
         Ending::Done => "stop done",
         Ending::Unhandled { .. } => "stop unhandled",
@@ -85,5 +85,14 @@ pub fn name_of_ending(ending: Ending) -> &'static str {
         Ending::Cells => "stop cells",
         Ending::Integer => "stop integer",
         Ending::Stranded => "stranded",
+    }
+}
+
+/// How far a run has come, in words.
+pub fn name_of(progress: Progress) -> &'static str {
+    match progress {
+        Progress::Ended(ending) => name_of_ending(ending),
+        Progress::Running => "running",
+        Progress::WriteFault => "write fault",
     }
 }

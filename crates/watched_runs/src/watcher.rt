@@ -1,8 +1,10 @@
 // A watcher that keeps what it is told.
 ghost use Rattle.std.specs.Prelude.{◌≡◌, None};
 
-use st_base::Failed;
+use object_heap::Heap;
+use st_base::{Failed, Sink};
 use st_contexts::{Event, Watch};
+use st_machine::{Machine, Progress};
 use std::alloc::Global;
 
 /// Keeps the events that it is told. It fails where memory is wanted.
@@ -26,6 +28,13 @@ impl Watcher {
 
     pub fn events(&self) -> &[Event] {
         &self.events
+    }
+
+    /// Watches a machine to the end of its run.
+    pub fn watch<H: Heap, K: Sink>(&mut self, machine: &mut Machine<H>, out: &mut K) -> Progress
+        requires { self.old.broken ≡ None }
+    {
+        machine.go_watched(u64::MAX, out, self)
     }
 }
 
