@@ -1,5 +1,5 @@
 // Standard input, output and error as a source and sinks. They tell none of their bytes.
-ghost use Rattle.std.specs.Prelude.{None};
+ghost use Rattle.std.specs.Prelude.{◌≡◌, ◌<◌, ◌≤◌, None, IfOk, length};
 
 use st_base::{Failed, OutOfMemory, Sink, Source};
 use std::alloc::Global;
@@ -98,7 +98,9 @@ impl StdReport {
     }
 
     /// Writes what is still gathered.
-    pub fn finish(&mut self) -> Result<(), Failed> {
+    pub fn finish(&mut self) -> Result<(), Failed>
+        ensures { self.new.faults ≡ self.old.faults }
+    {
         let written = self.output.write_all(self.gathered.as_slice());
         self.gathered.clear();
         match written {
@@ -108,7 +110,10 @@ impl StdReport {
     }
 
     // Some of the bytes at once, behind what is gathered.
-    fn write_now(&mut self, bytes: &[u8]) -> Result<usize, Failed> {
+    fn write_now(&mut self, bytes: &[u8]) -> Result<usize, Failed>
+        ensures kept { self.new.faults ≡ self.old.faults }
+        ensures count { IfOk result (λ count. (0 < count) × (count ≤ length bytes.now)) }
+    {
         self.finish()?;
         match self.output.write(bytes) {
             Ok(count) if count > 0 => Ok(count),
