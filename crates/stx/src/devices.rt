@@ -132,7 +132,7 @@ impl Sink for StdReport {
             return Ok(bytes.len());
         }
         match self.write_now(bytes) {
-            Ok(count) => Ok(count),
+            Ok(taken) => Ok(taken),
             Err(_) => {
                 self.faults = self.faults.saturating_add(1);
                 Err(Failed)
