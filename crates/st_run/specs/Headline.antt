@@ -19,7 +19,7 @@ pub record IsReported (line : List ℕ) (out out' report report' : Option (List 
   pub wrote : out' ≡ out
   pub told : report' ≡ append_known report line
 
--- what was taken of the file that a command reads settles no refusal; all that stands behind the input is there still, unless the input was taken whole
+-- what was taken of the file that a command reads settles no refusal. Where nothing stands behind the input, this is what was taken of the input; how much is left of what stands behind it isn't said
 pub record StaysOpen (c : Command) (bytes : List ℕ) (left : Option (List ℕ)) : Type 0 where
   pub behind_left : List ℕ
   pub plain : behind c ≡ [] → behind_left ≡ []
