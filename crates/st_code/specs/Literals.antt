@@ -2,7 +2,7 @@
 use Rattle.std.specs.Prelude.{List, [], map, length, true, None}
 use Rattle.object_heap.specs.declared.value.Value.{Value}
 use Rattle.object_heap.specs.Store.{Object}
-use Rattle.object_heap.specs.Troubles.{trouble_texts}
+use Rattle.st_base.specs.Troubles.{trouble_texts}
 use Rattle.st_code.specs.Texts.{Text}
 use Rattle.st_code.specs.BuiltIns.{string_class, array_class}
 

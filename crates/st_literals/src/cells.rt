@@ -1,6 +1,6 @@
 // How many cells the objects of literals take.
 ghost use Rattle.std.specs.Prelude.{◌≡◌, ◌+◌, ◌≤◌, ◌^◌, length, map, IfOk};
-ghost use Rattle.object_heap.specs.Troubles.{trouble_texts};
+ghost use Rattle.st_base.specs.Troubles.{trouble_texts};
 ghost use Rattle.st_code.specs.Written.{named_literal};
 ghost use Rattle.st_literals.specs.Gathered.{seen_literals};
 ghost use Rattle.st_literals.specs.Cells as cells;

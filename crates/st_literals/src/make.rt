@@ -1,6 +1,7 @@
 // Literals and texts as objects of a heap.
 ghost use Rattle.std.specs.Prelude.{◌≡◌, ◌+◌, ◌-◌, ◌≤◌, ◌^◌, [], ◌∷◌, length, map, IfOk, OnOk, IsTrue};
-ghost use Rattle.object_heap.specs.Troubles.{text_of, trouble_texts};
+ghost use Rattle.st_base.specs.Troubles.{trouble_texts};
+ghost use Rattle.object_heap.specs.Troubles.{text_of};
 ghost use Rattle.st_code.specs.Literals.{literal_string, trouble_literals};
 ghost use Rattle.st_code.specs.Resolved.{number_or_last};
 ghost use Rattle.st_code.specs.Written.{named_literal};

@@ -3,7 +3,8 @@ use Rattle.std.proofs.Common.{◌≡◌, ℕ, zero, suc, ◌+◌, ◌<◌, ◌�
 use Rattle.std.proofs.lemmas.List.{length-append}
 use Rattle.object_heap.specs.declared.value.Value.TheVariants.{Nil, Class, Meta}
 use Rattle.object_heap.specs.declared.trouble.Trouble.{Trouble}
-use Rattle.object_heap.specs.Troubles.{place_of as trouble_place_of, trouble_texts}
+use Rattle.st_base.specs.Troubles.{trouble_texts}
+use Rattle.object_heap.specs.Troubles.{place_of as trouble_place_of}
 use Rattle.object_heap.specs.Store.{Object as HeapObject}
 use Rattle.st_code.specs.Texts.{Text}
 use Rattle.st_code.specs.Literals.{literal_string, trouble_literals}

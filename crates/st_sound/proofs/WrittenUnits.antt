@@ -1,7 +1,7 @@
 -- The program that the units of a file are keeps its collections sound: unit by unit.
 use Rattle.std.proofs.Common.{◌≡◌, ℕ, zero, suc, map, length, get_or, append_assoc, List, [], ◌∷◌, ◌++◌, Option, Some, None, refl, ◌∙◌}
 use Rattle.object_heap.specs.Store.{Object as HeapObject, no_object}
-use Rattle.object_heap.specs.Troubles.{trouble_texts}
+use Rattle.st_base.specs.Troubles.{trouble_texts}
 use Rattle.st_code.specs.BuiltIns.{undefined_object_class}
 use Rattle.st_code.specs.Definitions.{context, names_of, or_zero, Defined, nothing_defined, body_in, with_body, initialized, defined_unit, defined_units, program_of}
 use Rattle.st_code.specs.Literals.{literal_string, trouble_literals}

@@ -4,7 +4,7 @@ use Rattle.std.proofs.lemmas.Bool.Decides.{leb_tells}
 use Rattle.object_heap.specs.declared.value.Value.{Value}
 use Rattle.object_heap.specs.declared.value.Value.TheVariants.{Class, Meta}
 use Rattle.object_heap.specs.Store.{Object as HeapObject}
-use Rattle.object_heap.specs.Troubles.{trouble_texts}
+use Rattle.st_base.specs.Troubles.{trouble_texts}
 use Rattle.st_code.specs.Texts.{Text, same_text}
 use Rattle.st_code.specs.Literals.{literal_string, trouble_literals}
 use Rattle.st_code.specs.Program.{Program, Scoped, Slot, ClassSlot, Side, OfInstance, OfClass, Kind, InMethod, InInitializer, MethodRow, Initializer, Body as BodyRow, NoIndexes, ClassRow, class_at}
