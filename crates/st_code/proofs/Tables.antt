@@ -7,7 +7,8 @@ use Rattle.st_base.specs.BuiltIns as base
 use Rattle.st_code.specs.Texts.{Text, same_text}
 use Rattle.st_code.specs.Program.{Side, OfInstance, OfClass, OfMeta, same_side}
 use Rattle.st_code.specs.Messages.{Row}
-use Rattle.st_code.specs.BuiltIns.{BuiltInClass, built_in_classes, RowAt, Section, row_in, row_in_sections, is_section, or_else, row_at, built_in_messages, BuiltInMessage, messages_of, messages_in, numbered_messages, is_message, place_of_message, message_number, no_message, numbered_row}
+use Rattle.st_code.specs.BuiltIns.{BuiltInClass, built_in_classes, Section, row_in, row_in_sections, is_section, or_else, row_at, built_in_messages, BuiltInMessage, messages_of, messages_in, numbered_messages, is_message, place_of_message, message_number, no_message, numbered_row}
+use Rattle.st_code.specs.BuiltInRows.{RowAt}
 
 -- ---- the tables agree
 

@@ -6,6 +6,7 @@ pub mod Named
 pub mod Written
 pub mod Resolved
 pub mod Messages
+pub mod BuiltInRows
 pub mod BuiltIns
 pub mod Lookup
 pub mod Literals

@@ -7,7 +7,8 @@ use Rattle.object_heap.specs.declared.value.Value.TheVariants.{Nil, Integer, Cla
 use Rattle.object_heap.specs.declared.value.Closure.{Closure}
 use Rattle.object_heap.specs.declared.trouble.Trouble.TheVariants as trouble
 use Rattle.object_heap.specs.Store.{Store, object_at}
-use Rattle.st_code.specs.BuiltIns.{array_class, exception_set_class, RowAt, Section, built_in_messages, row_in, is_section, or_else, row_in_sections, row_at}
+use Rattle.st_code.specs.BuiltIns.{array_class, exception_set_class, Section, built_in_messages, row_in, is_section, or_else, row_in_sections, row_at}
+use Rattle.st_code.specs.BuiltInRows.{RowAt}
 use Rattle.st_code.specs.Lookup.{Level, level_of, walk, Found, UserMethod, BuiltIn, method_at, found_at, found_in, lookup, class_level, super_lookup, is_plain, is_exception, fits}
 use Rattle.st_code.specs.Messages.{Row, Objects, Classes, Booleans, Numbers, Characters, Transcripts, Strings, Sequences, Collections, Blocks, Exceptions, Loops, Slots, BlockMessage, ExceptionMessage, LoopMessage}
 use Rattle.st_code.specs.Program.{Program, Side, class_at, body_at, name_at}

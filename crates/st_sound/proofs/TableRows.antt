@@ -4,7 +4,8 @@ use Rattle.std.specs.Option.{option_map}
 use Rattle.object_heap.specs.declared.value.Value.{Value}
 use Rattle.object_heap.specs.Store.{Store}
 use Rattle.st_code.specs.Texts.{Text, same_text}
-use Rattle.st_code.specs.BuiltIns.{object_class, string_class, symbol_class, array_class, byte_array_class, ordered_collection_class, set_class, dictionary_class, interval_class, class_class, metaclass_class, exception_class, RowAt, Section, built_in_messages, row_in, is_section, or_else, row_in_sections, row_at}
+use Rattle.st_code.specs.BuiltIns.{object_class, string_class, symbol_class, array_class, byte_array_class, ordered_collection_class, set_class, dictionary_class, interval_class, class_class, metaclass_class, exception_class, Section, built_in_messages, row_in, is_section, or_else, row_in_sections, row_at}
+use Rattle.st_code.specs.BuiltInRows.{RowAt}
 use Rattle.st_code.specs.Lookup.{Level, level, level_of, superclasses, holds, walk, Found, UserMethod, BuiltIn, method_at, found_at, found_in, lookup, class_level, super_lookup}
 use Rattle.st_code.specs.Messages.{Row, Objects, Classes, Booleans, Numbers, Characters, Transcripts, Strings, Sequences, Collections, Blocks, Exceptions, Loops, Slots, SequenceMessage, CollectionMessage, LoopMessage}
 use Rattle.st_code.specs.Program.{Program, Side, OfInstance, OfClass, OfMeta, same_side, name_at}

@@ -8,7 +8,8 @@ use Rattle.object_heap.specs.declared.trouble.Trouble.TheVariants.{WrongNumberOf
 use Rattle.object_heap.specs.Store.{Store, object_at}
 use Rattle.st_code.specs.Texts.{Text, same_text}
 use Rattle.st_code.specs.Program.{Program, Side, OfInstance, OfClass, same_side, body_at, class_at, name_at}
-use Rattle.st_code.specs.BuiltIns.{RowAt, Section, row_in, is_section, or_else, row_in_sections, built_in_messages, row_at, object_class, class_class, array_class}
+use Rattle.st_code.specs.BuiltIns.{Section, row_in, is_section, or_else, row_in_sections, built_in_messages, row_at, object_class, class_class, array_class}
+use Rattle.st_code.specs.BuiltInRows.{RowAt}
 use Rattle.st_code.specs.Messages.{Row, Objects, Classes, Booleans, Numbers, Characters, Transcripts, Strings, Sequences, Collections, Blocks, Exceptions, Loops, Slots, BlockMessage, LoopMessage}
 use Rattle.st_code.specs.Lookup.{Level, level, level_of, superclasses, walk, class_level, Found, UserMethod, BuiltIn, method_at, found_at, found_in, lookup, super_lookup}
 use Rattle.st_collections.specs.Actions.{Action, Gives, Fails, Activates, Misses, Enters, first}
