@@ -19,10 +19,6 @@ found_does p s (Some (UserMethod code)) selector r args = Enters code r args
 found_does p s (Some (BuiltIn row)) selector r args = row_action p s row r args
 found_does p s None selector r args = Misses selector r args
 
--- each message that is found is done here
-abbrev pub is_here : Option Found → Bool
-is_here found = true
-
 -- a row that changes an OrderedCollection
 abbrev pub is_changing : Row → Bool
 is_changing (Collections CollectionRow.Add) = true

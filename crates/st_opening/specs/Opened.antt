@@ -22,7 +22,7 @@ pub record IsOpened (units : List Unit) (limits : Limits) : Type 0 where
   pub ready : Ready (opened_seen units limits)
   pub begins : top_of [] [] (opened_seen units limits) ≡ opened_run (flat_of (program_from units limits)) (program_from units limits)
 
--- ---- what memory always holds
+-- ---- what counts as want of memory
 
 -- each code has fewer than 2^22 instructions
 abbrev pub are_few : List Compiled → Bool

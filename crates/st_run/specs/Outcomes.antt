@@ -4,13 +4,11 @@ use Rattle.st_base.specs.declared.faults.Place.{Place}
 use Rattle.st_base.specs.declared.faults.Reason.{Reason}
 use Rattle.st_tree.specs.declared.units.Unit as unit
 use Rattle.st_code.specs.Program.{Program}
-use Rattle.st_code.specs.Written.{named_units}
-use Rattle.st_code.specs.Definitions.{program_of}
-use Rattle.program_image.specs.Spelled.{names_in}
 use Rattle.st_rules.specs.State.{State, StepLimit, DepthLimit, CellLimit, IntegerLimit}
 use Rattle.st_rules.specs.Runs.{Ending, Done, Unhandled, AtLimit, Stuck, Runs}
 use Rattle.st_rules.specs.Turns.{MachineRuns}
 use Rattle.st_rules.specs.Flattened.{flat_of}
+use Rattle.st_machine.specs.Plans.{program_from}
 use Rattle.st_words.specs.declared.command.Task.{Task}
 use Rattle.st_words.specs.declared.command.Task.TheVariants as task
 use Rattle.st_words.specs.declared.command.Command.{Command}
@@ -37,7 +35,7 @@ usage = record { output = []; report = usage_line; status = 2 }
 
 -- the program that units are, with the limits of the command
 abbrev pub program_for : Command → List unit.Unit → Program
-program_for c us = program_of (names_in (named_units us)) (named_units us) (record { steps = c.limits.steps; depth = c.limits.depth; cells = c.limits.cells })
+program_for c us = program_from us c.limits
 
 -- `Stuck` comes never
 abbrev pub ending_status : Ending → ℕ
