@@ -1,14 +1,14 @@
 // The words and strings that an element holds.
 ghost use Rattle.std.specs.Prelude.{◌≡◌, ℕ, ◌-◌, List, ◌∷◌, ◌++◌, drop, take, length, IfOk};
-ghost use Rattle.std.specs.List.{list_all};
 ghost use Rattle.std.specs.Str.{bytes_eq};
-ghost use Rattle.st_base.specs.TokenBytes.{is_letter, is_word_byte, is_white_byte};
+ghost use Rattle.st_base.specs.TokenBytes.{is_white_byte};
 ghost use Rattle.st_tree.specs.Symbols.{text_of, unquoted, string_value};
-ghost use Rattle.st_tree.specs.Headers.{is_reserved, is_identifier, is_name, words_behind, words_of, are_names};
+ghost use Rattle.st_tree.specs.Headers.{is_reserved, is_name, words_behind, words_of, are_names};
 ghost use Rattle.sif_elements.specs.Words.{in_front};
 
 use sqlite_items::Items;
 use st_base::{OutOfMemory, Text, Token};
+use st_lexer::is_identifier;
 use std::alloc::Global;
 
 /// Whether a text is this one.
@@ -28,33 +28,6 @@ pub fn text_of(source: &[u8], token: Token) -> &[u8]
         &source[start..end]
     } else {
         &source[start..start]
-    }
-}
-
-fn is_letter(byte: u8) -> bool
-    ensures { result ≡ is_letter byte }
-{
-    byte.is_ascii_alphabetic() || byte == b'_'
-}
-
-fn is_word_byte(byte: u8) -> bool
-    ensures { result ≡ is_word_byte byte }
-{
-    is_letter(byte) || byte.is_ascii_digit()
-}
-
-fn are_word_bytes(bytes: &[u8]) -> bool
-    ensures { result ≡ list_all is_word_byte bytes.now }
-{
-    bytes.iter().all(|b| is_word_byte(*b))
-}
-
-fn is_identifier(bytes: &[u8]) -> bool
-    ensures { result ≡ is_identifier bytes.now }
-{
-    match bytes {
-        [first, rest @ ..] => is_letter(*first) && are_word_bytes(rest),
-        [] => false,
     }
 }
 

@@ -25,7 +25,8 @@ use Rattle.st_tree.specs.declared.units.ClassUnit.{ClassUnit}
 use Rattle.st_tree.specs.declared.units.UnitKind.{UnitKind}
 use Rattle.st_tree.specs.declared.units.UnitKind.TheVariants as unit
 use Rattle.st_tree.specs.declared.units.Annotation.{Annotation}
-use Rattle.st_tree.specs.Headers.{is_name, is_identifier, onto_word, words_behind, words_of, are_names, Slot, NameString, NamesString, Way, fits, slots_of, keyword_row, word_row, Filled, Stuck, way_of, way_or_none, comments_in, comments_of, says, Says}
+use Rattle.st_base.specs.Lexes.{is_identifier}
+use Rattle.st_tree.specs.Headers.{is_name, onto_word, words_behind, words_of, are_names, Slot, NameString, NamesString, Way, fits, slots_of, keyword_row, word_row, Filled, Stuck, way_of, way_or_none, comments_in, comments_of, says, Says}
 use Rattle.st_tree.specs.Units.{element, first_element}
 use Rattle.sif_export.specs.Words as word
 use Rattle.sif_export.specs.Words.{Joined, Blank, Gap, laid, quoted}

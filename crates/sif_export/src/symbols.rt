@@ -1,64 +1,16 @@
 // Which symbols need no quotes.
 ghost use Rattle.std.specs.Prelude.{◌≡◌};
 ghost use Rattle.std.specs.List.{list_all};
-ghost use Rattle.st_base.specs.TokenBytes.{is_letter, is_word_byte, is_operator_byte};
-ghost use Rattle.st_base.specs.Lexes.{is_identifier, is_run};
+ghost use Rattle.st_base.specs.TokenBytes.{is_operator_byte};
+ghost use Rattle.st_base.specs.Lexes.{is_run};
 ghost use Rattle.sif_export.specs.Words.{is_bare_symbol, goes_on_as_keywords, are_keywords};
 
-fn is_letter(byte: u8) -> bool
-    ensures { result ≡ is_letter byte }
-{
-    byte.is_ascii_alphabetic() || byte == b'_'
-}
-
-fn is_word_byte(byte: u8) -> bool
-    ensures { result ≡ is_word_byte byte }
-{
-    is_letter(byte) || byte.is_ascii_digit()
-}
-
-fn is_operator_byte(byte: u8) -> bool
-    ensures { result ≡ is_operator_byte byte }
-{
-    matches!(
-        byte,
-        b'!' | b'%'
-            | b'&'
-            | b'*'
-            | b'+'
-            | b','
-            | b'-'
-            | b'/'
-            | b'<'
-            | b'='
-            | b'>'
-            | b'?'
-            | b'@'
-            | b'\\'
-            | b'|'
-            | b'~'
-    )
-}
-
-fn are_words(text: &[u8]) -> bool
-    ensures { result ≡ list_all is_word_byte text.now }
-{
-    text.iter().all(|byte| is_word_byte(*byte))
-}
+use st_lexer::{is_identifier, is_letter, is_operator_byte, is_word_byte};
 
 fn are_operators(text: &[u8]) -> bool
     ensures { result ≡ list_all is_operator_byte text.now }
 {
     text.iter().all(|byte| is_operator_byte(*byte))
-}
-
-fn is_identifier(text: &[u8]) -> bool
-    ensures { result ≡ is_identifier text.now }
-{
-    match text.split_first() {
-        Some((first, rest)) => is_letter(*first) && are_words(rest),
-        None => false,
-    }
 }
 
 fn is_operator(text: &[u8]) -> bool

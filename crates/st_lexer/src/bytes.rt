@@ -1,5 +1,7 @@
 // The bytes of which tokens are made.
 ghost use Rattle.std.specs.Prelude.{◌≡◌, ◌==◌, ◌<◌, length};
+ghost use Rattle.std.specs.List.{list_all};
+ghost use Rattle.st_base.specs.Lexes.{is_identifier};
 ghost use Rattle.st_base.specs.TokenBytes.{is_letter, is_digit, is_word_byte, is_operator_byte, is_white_byte, is_figure, figure_value, begins, begins_colon, begins_float};
 
 /// A letter or `_`.
@@ -38,6 +40,22 @@ pub fn is_operator_byte(byte: u8) -> bool
             | b'|'
             | b'~'
     )
+}
+
+fn are_word_bytes(bytes: &[u8]) -> bool
+    ensures { result ≡ list_all is_word_byte bytes.now }
+{
+    bytes.iter().all(|byte| is_word_byte(*byte))
+}
+
+/// A letter or `_`, and behind it letters, `_` and digits.
+pub fn is_identifier(bytes: &[u8]) -> bool
+    ensures { result ≡ is_identifier bytes.now }
+{
+    match bytes {
+        [first, rest @ ..] => is_letter(*first) && are_word_bytes(rest),
+        [] => false,
+    }
 }
 
 /// A tab, line feed, form feed, carriage return or space.

@@ -11,6 +11,7 @@ mod spans;
 #[cfg(test)]
 mod tests;
 
+pub use bytes::{is_identifier, is_letter, is_operator_byte, is_word_byte};
 pub use law::{each_text_lexes_once, tokens_stand_in_order};
 pub use scan::{Lexed, tokens};
 pub use st_base::{LexFault, Token, TokenKind};

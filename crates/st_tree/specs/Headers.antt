@@ -2,7 +2,8 @@
 use Rattle.std.specs.Prelude.{◌≡◌, ℕ, ◌+◌, ◌-◌, Bool, true, false, not, ◌&&◌, ◌||◌, ◌==◌, if◌then◌else◌, List, [], ◌∷◌, length, take, drop, slice_get, Option, None, Some, codes}
 use Rattle.std.specs.List.{list_all}
 use Rattle.std.specs.Str.{bytes_eq}
-use Rattle.st_base.specs.TokenBytes.{is_letter, is_word_byte, is_white_byte}
+use Rattle.st_base.specs.TokenBytes.{is_white_byte}
+use Rattle.st_base.specs.Lexes.{is_identifier}
 use Rattle.st_base.specs.declared.tokens.Token.{Token}
 use Rattle.st_base.specs.declared.tokens.TokenKind.{TokenKind}
 use Rattle.st_base.specs.declared.tokens.TokenKind.TheVariants as kind
@@ -29,11 +30,6 @@ use Rattle.st_tree.specs.declared.tree.Method.{Method}
 -- `nil true false self super`
 abbrev pub is_reserved : List ℕ → Bool
 is_reserved t = bytes_eq t (codes "nil") || bytes_eq t (codes "true") || bytes_eq t (codes "false") || bytes_eq t (codes "self") || bytes_eq t (codes "super")
-
--- an identifier
-abbrev pub is_identifier : List ℕ → Bool
-is_identifier [] = false
-is_identifier (b ∷ bs) = is_letter b && list_all is_word_byte bs
 
 -- an identifier that isn't reserved
 abbrev pub is_name : List ℕ → Bool
