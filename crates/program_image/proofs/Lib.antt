@@ -1,5 +1,6 @@
 pub mod Spelling
 pub mod Places
+pub mod ByName
 pub mod Classes
 pub mod Declared
 pub mod Order

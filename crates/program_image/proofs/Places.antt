@@ -1,13 +1,10 @@
 -- Where a class or a text is found.
-use Rattle.std.proofs.Common.{◌≡◌, ℕ, suc, ◌+◌, ◌<◌, Bool, true, false, ◌&&◌, List, [], ◌∷◌, map, drop, length, get_or, Option, Some, None, refl, ap, sym, ◌∙◌, arith, nat_eq}
-use Rattle.std.proofs.Math.Seq.{drop-cons}
+use Rattle.std.proofs.Common.{◌≡◌, ℕ, suc, ◌+◌, ◌<◌, Bool, true, false, ◌&&◌, List, [], ◌∷◌, length, Option, Some, None, refl, ap, arith, nat_eq}
 use Rattle.std.proofs.lemmas.Slice.Eq.{bytes_eq-Decides}
 use Rattle.std.specs.Str.{bytes_eq}
 use Rattle.st_code.specs.Texts.{Text, same_text}
 use Rattle.st_code.specs.Resolved.{ClassNames, class_in}
 use Rattle.st_code.specs.Definitions.{or_zero}
-use Rattle.program_image.specs.declared.class.Class.{Class}
-use Rattle.program_image.specs.Classes.{seen_class}
 
 pub false-from : (b : Bool) → (b ≡ true → ⊥) → b ≡ false
 false-from true not = absurd (not refl)
@@ -26,28 +23,6 @@ same_text-bytes_eq [] [] = refl
 same_text-bytes_eq [] (b ∷ u) = refl
 same_text-bytes_eq (a ∷ t) [] = refl
 same_text-bytes_eq (a ∷ t) (b ∷ u) = first-byte (nat_eq a b) (same_text t u) (bytes_eq t u) (same_text-bytes_eq t u)
-
--- the class at a place is the one, or the search goes on behind it
-class-is : (b : Bool) (n : ℕ) (rest : Option ℕ) → b ≡ true → elim b [ true ↦ Some n | false ↦ rest ] ≡ Some n
-class-is b n rest is = rw is refl
-
-class-not : (b : Bool) (n : ℕ) (rest : Option ℕ) → b ≡ false → elim b [ true ↦ Some n | false ↦ rest ] ≡ rest
-class-not b n rest is = rw is refl
-
-pub class_in-here : (classes : List Class) (name : Text) (n i : ℕ) (c : Class) → c ≡ get_or classes i c → i < length classes → bytes_eq c.name name ≡ true
-    → class_in n (map seen_class (drop i classes)) name ≡ Some n
-class_in-here classes name n i c there low is =
-    let at : drop i classes ≡ c ∷ drop (suc i) classes = drop-cons classes i c low ∙ ap (λ d. d ∷ drop (suc i) classes) (sym there) in
-    ap (λ ds. class_in n (map seen_class ds) name) at ∙ class-is (same_text c.name name) n (class_in (suc n) (map seen_class (drop (suc i) classes)) name) (same_text-bytes_eq c.name name ∙ is)
-
-pub class_in-next : (classes : List Class) (name : Text) (n i : ℕ) (c : Class) → c ≡ get_or classes i c → i < length classes → bytes_eq c.name name ≡ false
-    → class_in n (map seen_class (drop i classes)) name ≡ class_in (n + 1) (map seen_class (drop (i + 1) classes)) name
-class_in-next classes name n i c there low is =
-    let at : drop i classes ≡ c ∷ drop (suc i) classes = drop-cons classes i c low ∙ ap (λ d. d ∷ drop (suc i) classes) (sym there) in
-    let next : suc n ≡ n + 1 = omega arith in
-    let after : suc i ≡ i + 1 = omega arith in
-    ap (λ ds. class_in n (map seen_class ds) name) at ∙ class-not (same_text c.name name) n (class_in (suc n) (map seen_class (drop (suc i) classes)) name) (same_text-bytes_eq c.name name ∙ is)
-    ∙ ap (λ m. class_in m (map seen_class (drop (suc i) classes)) name) next ∙ ap (λ j. class_in (n + 1) (map seen_class (drop j classes)) name) after
 
 -- a place that is found is one of the list
 below-next : (b : Bool) (n m k : ℕ) (rest : Option ℕ) → ((k : ℕ) → rest ≡ Some k → k < n + 1 + m) → elim b [ true ↦ Some n | false ↦ rest ] ≡ Some k → k < n + suc m

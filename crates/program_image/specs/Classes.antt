@@ -1,12 +1,15 @@
 -- Classes and variables of a program as they are seen.
 use Rattle.std.specs.Prelude.{ℕ, suc, ◌<◌, ◌≡◌, ◌^◌, List, [], ◌∷◌, length, map, Option, Some, None, Bool, true, false, ◌&&◌, ◌||◌, nat_lt, if◌then◌else◌, codes}
+use Rattle.std.specs.HashMap.{HashMap, get_by}
+use Rattle.std.specs.Option.{option_or}
 use Rattle.std.specs.Str.{bytes_eq}
+use Rattle.std.specs.declared.vec.Vec.{Vec}
 use Rattle.st_code.specs.Texts.{Text}
 use Rattle.st_code.specs.Program.{NoIndexes}
 use Rattle.st_code.specs.Named.{NamedUnit}
 use Rattle.st_code.specs.Written.{indexed_by}
 use Rattle.st_code.specs.Definitions.{declared_unit}
-use Rattle.st_code.specs.Resolved.{ClassNames, SharedName, GlobalName, PoolName, ClassName, ClassInstanceName, Names}
+use Rattle.st_code.specs.Resolved.{ClassNames, SharedName, GlobalName, PoolName, ClassName, ClassInstanceName, Names, class_in}
 use Rattle.st_base.specs.BuiltIns as base
 use Rattle.program_image.specs.declared.class.Class.{Class}
 use Rattle.program_image.specs.declared.class.SharedVariable.{SharedVariable}
@@ -49,12 +52,24 @@ abbrev pub falls : ℕ → List ClassNames → Bool
 falls n [] = true
 falls n (c ∷ classes) = is_below c.row.superclass n && falls (suc n) classes
 
+-- whether a key is this name
+abbrev pub is_name : {Z : Type 0} → Text → Vec ℕ Z → Bool
+is_name name k = bytes_eq name k.items
+
 -- there is a class, the numbers of classes and variables fit 32 bits, and each class stands behind its superclass
 pub record IsNumbered (x : Names) : Type 0 where
   pub some : 0 < length x.classes
   pub classes : length x.classes < 2 ^ 32
   pub shared : length x.shared < 2 ^ 32
   pub fall : falls 0 x.classes ≡ true
+
+-- the map has, for each name, the number of the first class of that name
+pub record HasNumbers {Z S : Type 0} (classes : List Class) (m : HashMap (Vec ℕ Z) ℕ S) : Type 0 where
+  pub each : (name : Text) → get_by (is_name name) m ≡ class_in 0 (map seen_class classes) name
+
+-- the map gains the number of a name, unless it has one
+pub record GainsName {Z S : Type 0} (old : HashMap (Vec ℕ Z) ℕ S) (name : Text) (number : ℕ) (new : HashMap (Vec ℕ Z) ℕ S) : Type 0 where
+  pub each : (t : Text) → get_by (is_name t) new ≡ option_or (get_by (is_name t) old) (if bytes_eq t name then Some number else None)
 
 -- ---- units
 

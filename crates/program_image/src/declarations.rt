@@ -9,6 +9,7 @@ ghost use Rattle.program_image.specs.Images.{image_names};
 ghost use Rattle.program_image.specs.Classes.{seen_class, seen_variable, seen_names, declared_kind, IsNumbered};
 
 use crate::class::{Class, SharedVariable};
+use crate::class_list::Classes;
 use crate::spelled::names_of;
 use sqlite_items::Items;
 use st_base::{OutOfMemory, Text, built_in_classes};
@@ -22,7 +23,7 @@ use std::marker::Model;
 pub(crate) struct Declarations {
     alloc: Global,
     names: Names,
-    classes: Items<Class>,
+    classes: Classes,
     shared: Items<SharedVariable>,
 }
 
@@ -38,42 +39,13 @@ impl Model for Declarations {
     ghost invariant = { λ d. IsNumbered (seen_names d.names d.classes d.shared) };
 }
 
-// The place of the first class of this name.
-fn class_place(classes: &[Class], name: &[u8]) -> Option<u32>
-    requires { length classes.now < 2 ^ 32 }
-    ensures { result ≡ class_in 0 (map seen_class classes.now) name.now }
-{
-    let mut place = 0;
-    for class in classes {
-        if class.name.as_bytes() == name {
-            return Some(place);
-        }
-        place += 1;
-    }
-    None
-}
-
 // The place of the superclass of this name, or of the first class where there is none.
-fn superclass_place(classes: &[Class], name: &[u8]) -> u32
-    requires some { 0 < length classes.now }
-    requires fits { length classes.now < 2 ^ 32 }
+fn superclass_place(classes: &Classes, name: &[u8]) -> u32
+    requires { 0 < length classes.now }
     ensures place { result ≡ or_zero (class_in 0 (map seen_class classes.now) name.now) }
     ensures there { result < length classes.now }
 {
-    class_place(classes, name).unwrap_or(0)
-}
-
-// Adds a class behind the others.
-fn push_class(classes: &mut Items<Class>, class: Class) -> Result<(), OutOfMemory>
-    requires { length classes.old < 2 ^ 32 }
-    ensures ok { OnOk result (classes.new ≡ classes.old ++ class ∷ []) }
-    ensures err { OnErr result (classes.new ≡ classes.old) }
-    ensures fits { length classes.new < 2 ^ 32 }
-{
-    if classes.len() >= u32::MAX as usize {
-        return Err(OutOfMemory);
-    }
-    Ok(classes.push(class)?)
+    classes.number(name).unwrap_or(0)
 }
 
 // Adds a variable behind the others.
@@ -127,10 +99,10 @@ fn push_class_instance_variables(
 }
 
 // The classes that every program has.
-fn first_classes(alloc: Global) -> Result<Items<Class>, OutOfMemory>
+fn first_classes(alloc: Global) -> Result<Classes, OutOfMemory>
     ensures { IfOk result (λ classes. map seen_class classes ≡ map built_in_names built_in_class_rows) }
 {
-    let mut classes = Items::new(alloc);
+    let mut classes = Classes::new(alloc);
     for class in built_in_classes() {
         classes.push(Class::built_in(alloc, class)?)?;
     }
@@ -174,7 +146,7 @@ impl Declarations {
     pub(crate) fn class_count(&self) -> u32
         ensures { result ≡ length self.now.classes }
     {
-        self.classes.len() as u32
+        self.classes.len()
     }
 
     /// The number of the first class of this name. None where there is none.
@@ -182,7 +154,7 @@ impl Declarations {
         ensures number { result ≡ class_in 0 self.now.classes name.now }
         ensures there { IfSome result (λ class. class < length self.now.classes) }
     {
-        class_place(self.classes.as_slice(), name)
+        self.classes.number(name)
     }
 
     /// A class by its number. None where there is none.
@@ -211,10 +183,9 @@ impl Declarations {
     fn declare_class(&mut self, unit: &ClassUnit) -> Result<(), OutOfMemory>
         ensures { OnOk result (self.new ≡ declared_class self.old (named_class unit.now)) }
     {
-        let classes = self.classes.as_slice();
-        let number = classes.len() as u32;
-        let superclass = superclass_place(classes, unit.superclass.as_bytes());
-        let above = &classes[superclass as usize];
+        let number = self.classes.len();
+        let superclass = superclass_place(&self.classes, unit.superclass.as_bytes());
+        let above = &self.classes.as_slice()[superclass as usize];
         let class = Class::over(
             self.alloc,
             unit,
@@ -224,7 +195,7 @@ impl Declarations {
         )?;
         push_class_variables(&mut self.shared, number, &class.class_names)?;
         push_class_instance_variables(&mut self.shared, number, &class.class_instance_names)?;
-        push_class(&mut self.classes, class)
+        self.classes.push(class)
     }
 
     /// Adds what a unit declares. After want of memory a part of it may be there.

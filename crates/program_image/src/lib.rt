@@ -2,6 +2,7 @@
 #![tactic(auto)]
 
 mod class;
+mod class_list;
 mod declarations;
 mod image;
 pub mod law;

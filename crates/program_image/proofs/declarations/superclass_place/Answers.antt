@@ -10,5 +10,5 @@ pub returns-clause-there : goal.returns-clause-there
 returns-clause-there c =
     let same : c.unwrap_or.result ≡ or_zero (class_in 0 (map seen_class c.args.classes.now) c.args.name.now) = search rules in
     let count = length-map c.args.classes.now seen_class in
-    let low = superclass-below (map seen_class c.args.classes.now) c.args.name.now (omega (arith, count, c.requires.some)) in
+    let low = superclass-below (map seen_class c.args.classes.now) c.args.name.now (omega (arith, count, c.requires)) in
     omega (arith, same, count, low)
