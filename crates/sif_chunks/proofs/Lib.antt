@@ -1,3 +1,4 @@
+pub mod Leaving
 pub mod SplitLemmas
 pub mod SplitLaw
 pub mod WrittenLaw

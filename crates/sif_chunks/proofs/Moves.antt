@@ -8,6 +8,7 @@ use Rattle.st_base.proofs.Known.{prepend_known-append}
 use Rattle.sif_chunks.specs.Reading.{Answer, answer_at, tells, ahead, ahead_of, is_ended, stopped, Takes, Follows, Settles, max_input}
 use Rattle.sif_chunks.specs.Turn.{Moves, Gives, Ends}
 use Rattle.sif_chunks.specs.Window.{Held}
+use Rattle.sif_chunks.proofs.Leaving.{prepend_known-nil}
 use Rattle.sif_chunks.specs.declared.next.Next.{Next}
 use Rattle.sif_chunks.specs.declared.next.Next.TheVariants.{Element, End, Unfinished, TooLong, InputTooLong, ReadFault}
 
@@ -20,10 +21,6 @@ take-over zero (b ∷ got) left low = absurd (omega arith)
 take-over (suc n) (b ∷ got) left low =
     let same : suc n - suc (length got) ≡ n - length got = omega arith in
     rw same (ap (λ (xs : List ℕ). b ∷ xs) (take-over n got left (omega arith)))
-
-prepend_known-nil : (known : Option (List ℕ)) → known ≡ prepend_known [] known
-prepend_known-nil None = refl
-prepend_known-nil (Some xs) = refl
 
 pub takes_none : (count : ℕ) (left : Option (List ℕ)) → Takes count count left left []
 takes_none count left = record { bytes = prepend_known-nil left; count = omega arith }

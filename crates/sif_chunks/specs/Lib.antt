@@ -4,5 +4,6 @@ pub mod Reading
 pub mod Step
 pub mod Window
 pub mod Turn
+pub mod Leaving
 pub mod Inside
 pub mod Writing

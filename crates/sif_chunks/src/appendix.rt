@@ -1,7 +1,8 @@
 // Bytes that stand behind those of a source.
-ghost use Rattle.std.specs.Prelude.{◌≡◌, ◌<◌, [], length, take, min};
+ghost use Rattle.std.specs.Prelude.{◌≡◌, ◌<◌, length, take, min};
 ghost use Rattle.std.specs.Io.KnownBytes.{append_known};
 ghost use Rattle.st_base.specs.Streams.{HasCause, Gives};
+ghost use Rattle.sif_chunks.specs.Leaving.{Leaves};
 
 use st_base::{Failed, Source};
 use std::marker::Model;
@@ -41,7 +42,6 @@ impl<'a> Appendix<'a> {
         ensures count { result ≡ min (length self.old) (length into.old) }
         ensures bytes { self.old ≡ take result into.new ++ self.new }
         ensures size { length into.new ≡ length into.old }
-        ensures spent { self.old ≡ [] → self.new ≡ [] }
     {
         let count = copy_front(self.left, into);
         self.left = &self.left[count..];
@@ -68,7 +68,7 @@ pub(crate) fn take_with<S: Source>(
 ) -> Result<usize, Failed>
     requires { 0 < length into.old }
     ensures bytes { Gives (append_known (S.left source.old) appendix.old) (append_known (S.left source.new) appendix.new) result into.new }
-    ensures spent { appendix.old ≡ [] → appendix.new ≡ [] }
+    ensures leaves { Leaves (S.left source.old) (S.left source.new) appendix.old appendix.new }
     ensures cause { HasCause (S.faults source.old) (S.faults source.new) result }
 {
     match source.take(into) {

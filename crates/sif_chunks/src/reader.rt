@@ -3,6 +3,7 @@ ghost use Rattle.std.specs.Prelude.{◌≡◌, ◌≢◌, ◌+◌, ◌<◌, ◌�
 ghost use Rattle.std.specs.Io.KnownBytes.{append_known};
 ghost use Rattle.std.specs.Option.{option_map};
 ghost use Rattle.st_base.specs.Streams.{Rose};
+ghost use Rattle.sif_chunks.specs.Leaving.{Leaves};
 ghost use Rattle.sif_chunks.specs.Reading.{outlook, told, judged, Settled};
 ghost use Rattle.sif_chunks.specs.Turn.{Gives, judged_of};
 
@@ -31,7 +32,7 @@ fn advance<S: Source>(
     ensures judged { judged_of window.new ≤ MAX_INPUT }
     ensures given { result ≡ Next.Element → judged_of window.old < judged_of window.new }
     ensures ended { result ≡ Next.End → IfSome (append_known (S.left source.new) appendix.new) (λ bytes. bytes ≡ []) }
-    ensures spent { appendix.old ≡ [] → appendix.new ≡ [] }
+    ensures leaves { Leaves (S.left source.old) (S.left source.new) appendix.old appendix.new }
     ensures later { S.faults source.old ≤ S.faults source.new }
     ensures kept { result ≢ Next.ReadFault → S.faults source.new ≡ S.faults source.old }
     ensures failed { result ≡ Next.ReadFault → Rose (S.faults source.old) (S.faults source.new) }
@@ -115,7 +116,7 @@ impl ChunkReader {
         ensures progress { self.old.stop ≡ None → result ≡ Next.Element → judged self.old < judged self.new }
         ensures bound { judged self.new ≤ MAX_INPUT }
         ensures ended { self.old.stop ≡ None → result ≡ Next.End → IfSome (append_known (S.left source.new) appendix.new) (λ bytes. bytes ≡ []) }
-        ensures spent { appendix.old ≡ [] → appendix.new ≡ [] }
+        ensures leaves { Leaves (S.left source.old) (S.left source.new) appendix.old appendix.new }
         ensures later { S.faults source.old ≤ S.faults source.new }
         ensures kept { result ≢ Next.ReadFault → S.faults source.new ≡ S.faults source.old }
         ensures failed { result ≡ Next.ReadFault → Rose (S.faults source.old) (S.faults source.new) }

@@ -2,6 +2,7 @@
 ghost use Rattle.std.specs.Prelude.{◌≡◌, ◌≢◌, ◌+◌, ◌<◌, ◌≤◌, ℕ, [], Some, IfSome, length};
 ghost use Rattle.std.specs.Io.KnownBytes.{append_known};
 ghost use Rattle.st_base.specs.Streams.{Rose};
+ghost use Rattle.sif_chunks.specs.Leaving.{Leaves};
 ghost use Rattle.sif_chunks.specs.Reading.{answer_at, tells};
 ghost use Rattle.sif_chunks.specs.Step.{IsSpent};
 ghost use Rattle.sif_chunks.specs.Turn.{judged_of, Ends, Turns};
@@ -45,7 +46,7 @@ pub(crate) fn turn<S: Source>(
     ensures judged { judged_of window.new ≤ MAX_INPUT }
     ensures given { result ≡ Some Next.Element → judged_of window.old < judged_of window.new }
     ensures ended { result ≡ Some Next.End → IfSome (append_known (S.left source.new) appendix.new) (λ bytes. bytes ≡ []) }
-    ensures spent { appendix.old ≡ [] → appendix.new ≡ [] }
+    ensures leaves { Leaves (S.left source.old) (S.left source.new) appendix.old appendix.new }
     ensures later { S.faults source.old ≤ S.faults source.new }
     ensures kept { result ≢ Some Next.ReadFault → S.faults source.new ≡ S.faults source.old }
     ensures failed { result ≡ Some Next.ReadFault → Rose (S.faults source.old) (S.faults source.new) }

@@ -2,6 +2,7 @@
 ghost use Rattle.std.specs.Prelude.{◌≡◌, ◌≢◌, ◌+◌, ◌≤◌, [], IfOk, length, drop};
 ghost use Rattle.std.specs.Io.KnownBytes.{append_known};
 ghost use Rattle.st_base.specs.Streams.{Rose};
+ghost use Rattle.sif_chunks.specs.Leaving.{Leaves};
 ghost use Rattle.sif_chunks.specs.Window.{Fills};
 
 use crate::appendix::{Appendix, take_with};
@@ -85,7 +86,7 @@ impl Window {
         requires spent { length self.old.pending ≤ 1 }
         requires input { self.old.taken ≤ MAX_INPUT }
         ensures bytes { Fills self.old (append_known (S.left source.old) appendix.old) result self.new (append_known (S.left source.new) appendix.new) }
-        ensures spent { appendix.old ≡ [] → appendix.new ≡ [] }
+        ensures leaves { Leaves (S.left source.old) (S.left source.new) appendix.old appendix.new }
         ensures later { S.faults source.old ≤ S.faults source.new }
         ensures kept { result ≢ Fill.Failed → S.faults source.new ≡ S.faults source.old }
         ensures failed { result ≡ Fill.Failed → Rose (S.faults source.old) (S.faults source.new) }

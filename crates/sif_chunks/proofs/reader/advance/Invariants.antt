@@ -1,6 +1,7 @@
-use Rattle.std.proofs.Common.{◌≡◌, ◌+◌, ◌-◌, ◌*◌, ◌≤◌, ℕ, List, []}
+use Rattle.std.proofs.Common.{◌≡◌, ◌+◌, ◌-◌, ◌*◌, ◌≤◌, ℕ, List}
 use Rattle.std.specs.Io.KnownBytes.{append_known}
 use Rattle.sif_chunks.specs.Reading.{max_input}
+use Rattle.sif_chunks.specs.Leaving.{Leaves}
 use Rattle.sif_chunks.specs.Turn.{Moves, judged_of, progress}
 use Rattle.sif_chunks.proofs.reader.advance.Given as goal
 
@@ -9,7 +10,7 @@ abbrev pub invariant-loop-answer : goal.invariant-loop-answer
 invariant-loop-answer g l = record {
   moves : (got : List ℕ) × Moves l.fn.text l.fn.window (append_known (g.S.Source.left l.fn.source) l.fn.appendix) l.text l.window (append_known (g.S.Source.left l.source) l.appendix) got;
   moved : judged_of l.fn.window ≤ judged_of l.window;
-  spent : l.fn.appendix ≡ [] → l.appendix ≡ [];
+  leaves : Leaves (g.S.Source.left l.fn.source) (g.S.Source.left l.source) l.fn.appendix l.appendix;
   faults : g.S.Source.faults l.source ≡ g.S.Source.faults l.fn.source;
 }
 

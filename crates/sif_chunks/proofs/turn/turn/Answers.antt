@@ -7,6 +7,7 @@ use Rattle.sif_chunks.specs.declared.step.Step.TheVariants.{Doubled, Separator, 
 use Rattle.sif_chunks.specs.declared.next.Next.TheVariants.{InputTooLong, ReadFault}
 use Rattle.sif_chunks.proofs.Moves.{moves_moves, moves_gives, end_gives}
 use Rattle.sif_chunks.proofs.Turned.{passed, after_doubled, after_white, after_more, after_element, after_too_long, after_bytes, after_beyond, after_fault, further, further_bytes}
+use Rattle.sif_chunks.proofs.Leaving.{leaves_all}
 use Rattle.sif_chunks.proofs.turn.turn.Goals as goal
 
 pub returns-in-Doubled-clause-turns : goal.returns-in-Doubled-clause-turns
@@ -86,3 +87,15 @@ returns-in-Failed-clause-turns g c =
     moves_gives ReadFault c.args.text.now c.go_on-count.new.text c.go_on-count.new.text c.args.window.now rest c.refill.new.self left left now []
     (after_more c.args.text.now c.go_on-count.new.text c.args.window.now c.go_on-count.result.0 left c.requires steps)
     (after_fault c.go_on-count.new.text rest c.refill.new.self left now none.0 none.1 steps.short steps.cases.1)
+
+pub returns-in-Doubled-clause-leaves : goal.returns-in-Doubled-clause-leaves
+returns-in-Doubled-clause-leaves g c = leaves_all (g.S.Source.left c.args.source.now) c.args.appendix.now
+
+pub returns-in-TooLong-clause-leaves : goal.returns-in-TooLong-clause-leaves
+returns-in-TooLong-clause-leaves g c = leaves_all (g.S.Source.left c.args.source.now) c.args.appendix.now
+
+pub returns-then-not-is_white-clause-leaves : goal.returns-then-not-is_white-clause-leaves
+returns-then-not-is_white-clause-leaves g c = leaves_all (g.S.Source.left c.args.source.now) c.args.appendix.now
+
+pub returns-else-not-is_white-clause-leaves : goal.returns-else-not-is_white-clause-leaves
+returns-else-not-is_white-clause-leaves g c = leaves_all (g.S.Source.left c.args.source.now) c.args.appendix.now

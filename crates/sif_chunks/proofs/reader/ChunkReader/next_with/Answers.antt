@@ -1,6 +1,7 @@
 use Rattle.std.proofs.Common.{[]}
 use Rattle.std.specs.Io.KnownBytes.{append_known}
 use Rattle.sif_chunks.proofs.Outlooks.{repeated, repeated_settled, outlook-given, outlook-begun, over-given, over-begun, answered, settled_by}
+use Rattle.sif_chunks.proofs.Leaving.{leaves_all}
 use Rattle.sif_chunks.proofs.reader.ChunkReader.next_with.Goals as goal
 use Rattle.sif_chunks.proofs.reader.ChunkReader.next_with.Goals.{then-self, else-self}
 
@@ -33,3 +34,6 @@ returns-clause-settled g c =
           let gives = rw w.self-inside-is at c.advance-answer.ensures.gives in
           rw (← c.self.view_is, w.self-inside-is) (settled_by c.advance-answer.result c.self.inside.text _ _ (append_known (g.S.Source.left c.args.source.now) c.args.appendix.now) (append_known (g.S.Source.left c.advance-answer.new.source) c.advance-answer.new.appendix) (over-begun _ c.in_default.is w.if-self.false) gives)
     ]
+
+pub returns-in-Some-clause-leaves : goal.returns-in-Some-clause-leaves
+returns-in-Some-clause-leaves g c = leaves_all (g.S.Source.left c.args.source.now) c.args.appendix.now
