@@ -12,4 +12,5 @@ pub mod Counting
 pub mod Compiling
 pub mod Loading
 pub mod Scopes
+pub mod Shared
 pub mod Ends

@@ -20,26 +20,26 @@ use Rattle.st_compiler.proofs.Compiling.{compiled-same}
 
 -- so many units are defined, and the others will be
 pub record Underway (units : List Unit) (now : Defining) (given : List ℕ) (i : ℕ) (all : List Unit) : Type 0 where
-  pub image : now.image.now ≡ units
+  pub lookups : now.lookups.now ≡ units
   pub defined : Defined
   pub holds : Holds now defined
   pub rest : defined_file (image_names units) (drop i all) defined ≡ defined_file (image_names units) all nothing_defined
   pub numbers : given ++ codes_from (image_names units) (drop i all) defined ≡ codes_from (image_names units) all nothing_defined
 
-pub underway-first : (units all : List Unit) (now : Defining) → now.image.now ≡ units → Holds now nothing_defined → Underway units now [] 0 all
-underway-first units all now image holds = record { image = image; defined = nothing_defined; holds = holds; rest = refl; numbers = refl }
+pub underway-first : (units all : List Unit) (now : Defining) → now.lookups.now ≡ units → Holds now nothing_defined → Underway units now [] 0 all
+underway-first units all now same holds = record { lookups = same; defined = nothing_defined; holds = holds; rest = refl; numbers = refl }
 
-pub underway-next : (units all : List Unit) (now next : Defining) (numbers more : List ℕ) (i : ℕ) (u : Unit) (code : ℕ) → u ≡ get_or all i u → i < length all → code ≡ length now.draft.bodies → more ≡ numbers ++ code ∷ [] → next.image ≡ now.image
-    → ((d : Defined) → Holds now d → Holds next (defined_kind (image_names now.image.now) (named_unit u) d)) → Underway units now numbers i all → Underway units next more (i + 1) all
-underway-next units all now next numbers more i u code there low number added image holds before =
+pub underway-next : (units all : List Unit) (now next : Defining) (numbers more : List ℕ) (i : ℕ) (u : Unit) (code : ℕ) → u ≡ get_or all i u → i < length all → code ≡ length now.draft.bodies → more ≡ numbers ++ code ∷ [] → next.lookups ≡ now.lookups
+    → ((d : Defined) → Holds now d → Holds next (defined_kind (image_names now.lookups.now) (named_unit u) d)) → Underway units now numbers i all → Underway units next more (i + 1) all
+underway-next units all now next numbers more i u code there low number added lookups holds before =
     let x : Names = image_names units in
     let d : Defined = before.defined in
     let at : drop i all ≡ u ∷ drop (i + 1) all = drop-here all i u there low in
-    let e : Defined = defined_kind (image_names now.image.now) (named_unit u) d in
-    let same : e ≡ defined_kind x (named_unit u) d = ap (λ us. defined_kind (image_names us) (named_unit u) d) before.image in
+    let e : Defined = defined_kind (image_names now.lookups.now) (named_unit u) d in
+    let same : e ≡ defined_kind x (named_unit u) d = ap (λ us. defined_kind (image_names us) (named_unit u) d) before.lookups in
     let count : code ≡ length d.bodies = number ∙ ap length before.holds.bodies ∙ length-map d.bodies drafted in
     record {
-      image = ap (λ b. b.now) image ∙ before.image;
+      lookups = ap (λ b. b.now) lookups ∙ before.lookups;
       defined = e;
       holds = holds d before.holds;
       rest = ap (λ f. defined_file x (drop (i + 1) all) f) same ∙ ap (λ us. defined_file x us d) (sym at) ∙ before.rest;

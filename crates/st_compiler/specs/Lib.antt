@@ -2,6 +2,7 @@ pub mod Bytes
 pub mod Befores
 pub mod Steps
 pub mod Around
+pub mod Shared
 pub mod Drafted
 pub mod Walked
 pub mod Placed

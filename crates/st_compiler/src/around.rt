@@ -1,19 +1,19 @@
 // Where a tree stands, and what names mean there.
-ghost use Rattle.std.specs.Prelude.{◌≡◌, suc, IfOk, map};
+ghost use Rattle.std.specs.Prelude.{◌≡◌, suc, IfOk};
 ghost use Rattle.std.specs.Option.{option_map};
 ghost use Rattle.st_code.specs.Program.{OfInstance, OfClass};
 ghost use Rattle.st_code.specs.Resolved.{meant_outside, named, number_or_last, class_of_context, inside, own_names, in_pools, in_classes, meant_shared, place_in, class_names_at, or_meant, or_transcript};
 ghost use Rattle.st_code.specs.Definitions.{context};
-ghost use Rattle.program_image.specs.Classes.{seen_class, seen_variable};
+ghost use Rattle.program_image.specs.Classes.{seen_class};
 ghost use Rattle.program_image.specs.Images.{image_names};
 ghost use Rattle.st_compiler.specs.Steps.{seen_meaning};
 ghost use Rattle.st_compiler.specs.Around.{side_of, names_of_class, seen_key, in_one_class, named_globally};
 
-use crate::lookup::{Key, shared_place, text_place};
+use crate::lookup::{Key, Lookups, text_place};
 use crate::scope::Scope;
 use crate::step::{Meaning, Place};
 use object_heap::Value;
-use program_image::{Class, Image, SharedVariable};
+use program_image::{Class, Image};
 use st_base::{MethodSide, OutOfMemory, Text};
 use std::alloc::Global;
 use std::marker::Model;
@@ -21,15 +21,15 @@ use std::marker::Model;
 /// Where a tree stands. Contracts see the names, the class and side, the number of the body around
 /// it, and the names of its scopes from the innermost on.
 #[derive(Drop)]
-pub(crate) struct Around<'a> {
-    image: &'a Image,
+pub(crate) struct Around<'a, 'l> {
+    lookups: &'l Lookups<'a>,
     class: u32,
     side: MethodSide,
     code: u32,
     scopes: Vec<Scope<'a>>,
 }
 
-impl<'a> Model for Around<'a> {
+impl<'a, 'l> Model for Around<'a, 'l> {
     ghost use Rattle.st_code.specs.Resolved.{Context};
 
     ghost Value = { Context };
@@ -37,7 +37,7 @@ impl<'a> Model for Around<'a> {
     ghost use Rattle.program_image.specs.Images.{image_names};
     ghost use Rattle.st_compiler.specs.Around.{side_of};
 
-    ghost view = { λ a. record { names = image_names a.image.now; class = a.class; side = side_of a.side; code = a.code; scopes = a.scopes.items } };
+    ghost view = { λ a. record { names = image_names a.lookups.now; class = a.class; side = side_of a.side; code = a.code; scopes = a.scopes.items } };
 }
 
 fn class_at(image: &Image, class: u32) -> Option<&Class>
@@ -67,22 +67,22 @@ fn class_slot(class: &Class, text: &[u8]) -> Option<Meaning>
 }
 
 // A variable of the program.
-fn shared_meaning(shared: &[SharedVariable], key: Key<'_>) -> Option<Meaning>
-    ensures { option_map seen_meaning result ≡ meant_shared (place_in 0 (map seen_variable shared.now) (seen_key key.entry)) }
+fn shared_meaning(lookups: &Lookups<'_>, key: Key<'_>) -> Option<Meaning>
+    ensures { option_map seen_meaning result ≡ meant_shared (place_in 0 (image_names lookups.now).shared (seen_key key.entry)) }
 {
-    match shared_place(shared, key) {
+    match lookups.shared_place(key) {
         Some(place) => Some(Meaning::At(Place::Shared(place))),
         None => None,
     }
 }
 
 // A variable of the first of these pools that has it.
-fn in_pools(shared: &[SharedVariable], pools: &[Text], text: &[u8]) -> Option<Meaning>
-    ensures { option_map seen_meaning result ≡ in_pools (map seen_variable shared.now) pools.now text.now }
+fn in_pools(lookups: &Lookups<'_>, pools: &[Text], text: &[u8]) -> Option<Meaning>
+    ensures { option_map seen_meaning result ≡ in_pools (image_names lookups.now).shared pools.now text.now }
 {
     for pool in pools {
         let pool = pool.as_bytes();
-        if let Some(found) = shared_meaning(shared, Key::Pool { pool, name: text }) {
+        if let Some(found) = shared_meaning(lookups, Key::Pool { pool, name: text }) {
             return Some(found);
         }
     }
@@ -90,14 +90,13 @@ fn in_pools(shared: &[SharedVariable], pools: &[Text], text: &[u8]) -> Option<Me
 }
 
 // A class variable of a class, or a variable of its pools.
-fn in_class(image: &Image, class: u32, text: &[u8]) -> Option<Meaning>
-    ensures { option_map seen_meaning result ≡ in_one_class (image_names image.now) class text.now }
+fn in_class(lookups: &Lookups<'_>, class: u32, text: &[u8]) -> Option<Meaning>
+    ensures { option_map seen_meaning result ≡ in_one_class (image_names lookups.now) class text.now }
 {
-    let shared = image.shared();
-    match shared_meaning(shared, Key::OfClass { class, name: text }) {
+    match shared_meaning(lookups, Key::OfClass { class, name: text }) {
         Some(found) => Some(found),
-        None => match class_at(image, class) {
-            Some(class) => in_pools(shared, class.pools.as_slice(), text),
+        None => match class_at(lookups.image(), class) {
+            Some(class) => in_pools(lookups, class.pools.as_slice(), text),
             None => None,
         },
     }
@@ -113,17 +112,17 @@ fn superclass(image: &Image, class: u32) -> Option<u32>
 }
 
 // The class variables and pools of a class, and then those of the classes above it.
-fn in_classes(image: &Image, class: u32, text: &[u8]) -> Option<Meaning>
-    ensures { option_map seen_meaning result ≡ in_classes (image_names image.now) (suc class) class text.now }
+fn in_classes(lookups: &Lookups<'_>, class: u32, text: &[u8]) -> Option<Meaning>
+    ensures { option_map seen_meaning result ≡ in_classes (image_names lookups.now) (suc class) class text.now }
 {
     let mut at = class;
     let mut left = class as u64 + 1;
     while left > 0 {
         left -= 1;
-        if let Some(found) = in_class(image, at, text) {
+        if let Some(found) = in_class(lookups, at, text) {
             return Some(found);
         }
-        match superclass(image, at) {
+        match superclass(lookups.image(), at) {
             Some(above) => at = above,
             None => return None,
         }
@@ -132,48 +131,48 @@ fn in_classes(image: &Image, class: u32, text: &[u8]) -> Option<Meaning>
 }
 
 // A class, or else a global.
-fn global(image: &Image, text: &[u8]) -> Option<Meaning>
-    ensures { option_map seen_meaning result ≡ named_globally (image_names image.now) text.now }
+fn global(lookups: &Lookups<'_>, text: &[u8]) -> Option<Meaning>
+    ensures { option_map seen_meaning result ≡ named_globally (image_names lookups.now) text.now }
 {
-    match image.class_number(text) {
+    match lookups.image().class_number(text) {
         Some(class) => Some(Meaning::Class(class)),
-        None => shared_meaning(image.shared(), Key::Global(text)),
+        None => shared_meaning(lookups, Key::Global(text)),
     }
 }
 
 // What a class's or a global's name means, and any other.
-fn meaning_anywhere(image: &Image, text: &[u8]) -> Meaning
-    ensures { seen_meaning result ≡ or_transcript (named_globally (image_names image.now) text.now) }
+fn meaning_anywhere(lookups: &Lookups<'_>, text: &[u8]) -> Meaning
+    ensures { seen_meaning result ≡ or_transcript (named_globally (image_names lookups.now) text.now) }
 {
-    match global(image, text) {
+    match global(lookups, text) {
         Some(found) => found,
         None => Meaning::Transcript,
     }
 }
 
 // What a name means that is no variable of the instance.
-fn meaning_beyond(image: &Image, class: u32, text: &[u8]) -> Meaning
-    ensures { seen_meaning result ≡ or_transcript (or_meant (in_classes (image_names image.now) (suc class) class text.now) (named_globally (image_names image.now) text.now)) }
+fn meaning_beyond(lookups: &Lookups<'_>, class: u32, text: &[u8]) -> Meaning
+    ensures { seen_meaning result ≡ or_transcript (or_meant (in_classes (image_names lookups.now) (suc class) class text.now) (named_globally (image_names lookups.now) text.now)) }
 {
-    match in_classes(image, class, text) {
+    match in_classes(lookups, class, text) {
         Some(found) => found,
-        None => meaning_anywhere(image, text),
+        None => meaning_anywhere(lookups, text),
     }
 }
 
-impl<'a> Around<'a> {
+impl<'a, 'l> Around<'a, 'l> {
     /// Outside of all bodies of this class and side.
     pub(crate) fn outside(
         alloc: Global,
-        image: &'a Image,
+        lookups: &'l Lookups<'a>,
         class: u32,
         side: MethodSide,
         code: u32,
-    ) -> Around<'a>
-        ensures { result ≡ context (image_names image.now) class (side_of side) code }
+    ) -> Around<'a, 'l>
+        ensures { result ≡ context (image_names lookups.now) class (side_of side) code }
     {
         Around {
-            image,
+            lookups,
             class,
             side,
             code,
@@ -187,7 +186,7 @@ impl<'a> Around<'a> {
         alloc: Global,
         code: u32,
         scope: Scope<'a>,
-    ) -> Result<Around<'a>, OutOfMemory>
+    ) -> Result<Around<'a, 'l>, OutOfMemory>
         ensures { IfOk result (λ x. x ≡ inside self.now code scope.entry) }
     {
         let mut scopes = Vec::new(alloc);
@@ -196,7 +195,7 @@ impl<'a> Around<'a> {
             scopes.push(outer.share()?)?;
         }
         Ok(Around {
-            image: self.image,
+            lookups: self.lookups,
             class: self.class,
             side: self.side,
             code,
@@ -225,7 +224,7 @@ impl<'a> Around<'a> {
     pub(crate) fn number(&self, text: &[u8]) -> u32
         ensures { result ≡ number_or_last self.now.names.names text.now }
     {
-        let names = self.image.names();
+        let names = self.lookups.image().names();
         match names.find(text) {
             Some(number) => number,
             None => names.len(),
@@ -236,7 +235,7 @@ impl<'a> Around<'a> {
     fn own(&self, text: &[u8]) -> Option<Meaning>
         ensures { option_map seen_meaning result ≡ own_names (class_names_at self.now.names.classes self.now.class) self.now.side text.now }
     {
-        let Some(class) = class_at(self.image, self.class) else {
+        let Some(class) = class_at(self.lookups.image(), self.class) else {
             return None;
         };
         match self.side {
@@ -252,7 +251,7 @@ impl<'a> Around<'a> {
     {
         match self.own(text) {
             Some(found) => found,
-            None => meaning_beyond(self.image, self.class, text),
+            None => meaning_beyond(self.lookups, self.class, text),
         }
     }
 

@@ -116,7 +116,11 @@ impl<'a> Draft<'a> {
     }
 
     /// A variable, a class or `Transcript` by its name.
-    pub(crate) fn name(&mut self, around: &Around<'a>, name: &'a Name) -> Result<(), OutOfMemory>
+    pub(crate) fn name(
+        &mut self,
+        around: &Around<'a, '_>,
+        name: &'a Name,
+    ) -> Result<(), OutOfMemory>
         ensures { OnOk result (self.new ≡ name_walked around.now name.now.text self.old) }
     {
         self.mention(name)?;
@@ -151,7 +155,7 @@ impl<'a> Draft<'a> {
     /// Stores a value in the targets, the last first.
     pub(crate) fn store_all(
         &mut self,
-        around: &Around<'a>,
+        around: &Around<'a, '_>,
         names: &'a [Name],
     ) -> Result<(), OutOfMemory>
         ensures { OnOk result (self.new ≡ with_steps self.old (stores around.now (map name_text names.now))) }

@@ -6,6 +6,7 @@ ghost use Rattle.program_image.specs.Finding.{program_of_image, unit_codes};
 ghost use Rattle.st_compiler.specs.Drafted.{seen_initializer};
 ghost use Rattle.st_compiler.specs.Loading.{IsParts};
 
+use crate::lookup::Lookups;
 use crate::placing::codes_of;
 use crate::units::{Initializer, definitions_of};
 use program_image::Image;
@@ -51,7 +52,8 @@ impl Model for Loaded {
 fn parts_of(alloc: Global, image: &Image) -> Result<Parts, OutOfMemory>
     ensures { IfOk result (IsParts image.now) }
 {
-    let definitions = definitions_of(alloc, image)?;
+    let lookups = Lookups::new(alloc, image)?;
+    let definitions = definitions_of(alloc, &lookups)?;
     let codes = codes_of(alloc, definitions.bodies())?;
     let literals = definitions.literals();
     let (initializers, unit_codes) = definitions.into_rows();

@@ -1,18 +1,122 @@
-// The places of names in the lists that declare them.
-ghost use Rattle.std.specs.Prelude.{◌≡◌, ◌<◌, length, map, IfSome};
-ghost use Rattle.st_code.specs.Resolved.{GlobalName, PoolName, ClassName, text_in, place_in, same_shared};
+// The image that is compiled, with the places of its variables.
+ghost use Rattle.std.specs.Prelude.{◌≡◌, ◌<◌, length, map, IfOk, IfSome, OnOk};
+ghost use Rattle.std.specs.Option.{option_map};
+ghost use Rattle.st_code.specs.Resolved.{text_in, place_in};
 ghost use Rattle.program_image.specs.Classes.{seen_variable};
+ghost use Rattle.program_image.specs.Images.{image_names};
 ghost use Rattle.st_compiler.specs.Around.{seen_key};
+ghost use Rattle.st_compiler.specs.Shared.{keyed, HasPlaces, GainsPlace};
 
-use program_image::SharedVariable;
-use st_base::Text;
+use indexmap::IndexMap;
+use program_image::{Image, SharedVariable};
+use st_base::{OutOfMemory, Text};
+use std::alloc::Global;
+use std::marker::Model;
 
 /// What a variable of the program is looked up by.
-#[derive(Clone, Copy)]
+#[derive(Clone, Copy, Debug, PartialEq, Eq, Hash)]
 pub(crate) enum Key<'a> {
     Global(&'a [u8]),
     Pool { pool: &'a [u8], name: &'a [u8] },
     OfClass { class: u32, name: &'a [u8] },
+}
+
+// The key of a variable. A class instance variable has none: it is found in its class.
+fn key_of<'a>(variable: &'a SharedVariable) -> Option<Key<'a>>
+    ensures { option_map seen_key result ≡ keyed (seen_variable variable.now) }
+{
+    match variable {
+        SharedVariable::Global(name) => Some(Key::Global(name.as_bytes())),
+        SharedVariable::Pool { pool, name } => Some(Key::Pool {
+            pool: pool.as_bytes(),
+            name: name.as_bytes(),
+        }),
+        SharedVariable::OfClass { class, name } => Some(Key::OfClass {
+            class: *class,
+            name: name.as_bytes(),
+        }),
+        SharedVariable::OfClassInstance { .. } => None,
+    }
+}
+
+// Notes the place of a variable, unless its key has one.
+fn note<'a>(
+    places: &mut IndexMap<Key<'a>, usize>,
+    variable: &'a SharedVariable,
+    place: usize,
+) -> Result<(), OutOfMemory>
+    ensures { OnOk result (GainsPlace places.old (seen_variable variable.now) place places.new) }
+{
+    let Some(key) = key_of(variable) else {
+        return Ok(());
+    };
+    if places.contains_key(&key) {
+        return Ok(());
+    }
+    places.insert(key, place)?;
+    Ok(())
+}
+
+// The place of the first variable for each key.
+fn places_of<'a>(
+    alloc: Global,
+    variables: &'a [SharedVariable],
+) -> Result<IndexMap<Key<'a>, usize>, OutOfMemory>
+    ensures { IfOk result (HasPlaces (map seen_variable variables.now)) }
+{
+    let mut places = IndexMap::new(alloc);
+    for (index, variable) in variables.iter().enumerate() {
+        note(&mut places, variable, index)?;
+    }
+    Ok(places)
+}
+
+/// The image that is compiled, with the places of its variables by their keys. Contracts see it as
+/// the units of its file.
+#[derive(Drop)]
+pub(crate) struct Lookups<'a> {
+    image: &'a Image,
+    places: IndexMap<Key<'a>, usize>,
+}
+
+impl<'a> Model for Lookups<'a> {
+    ghost use Rattle.std.specs.Prelude.{List};
+    ghost use Rattle.std.specs.Coded.{coded_list};
+    ghost use Rattle.st_tree.specs.contracts.units.Unit as unit;
+    ghost use Rattle.st_tree.specs.declared.units.Unit.{Unit};
+    ghost use Rattle.program_image.specs.Images.{image_names};
+    ghost use Rattle.st_compiler.specs.Shared.{HasPlaces};
+
+    ghost coded = { coded_list unit.the_row.coded };
+
+    ghost Value = { List Unit };
+
+    ghost view = { λ l. l.image.now };
+
+    ghost invariant = { λ l. HasPlaces (image_names l.image.now).shared l.places };
+}
+
+impl<'a> Lookups<'a> {
+    pub(crate) fn new(alloc: Global, image: &'a Image) -> Result<Lookups<'a>, OutOfMemory>
+        ensures { IfOk result (λ l. l ≡ image.now) }
+    {
+        let places = places_of(alloc, image.shared())?;
+        Ok(Lookups { image, places })
+    }
+
+    /// The image.
+    pub(crate) fn image(&self) -> &'a Image
+        ensures { result.now ≡ self.now }
+    {
+        self.image
+    }
+
+    /// The place of the first such variable of the program.
+    pub(crate) fn shared_place(&self, key: Key<'_>) -> Option<usize>
+        ensures { result ≡ place_in 0 (image_names self.now).shared (seen_key key.entry) }
+    {
+        self.places.get(&key).copied()
+    }
 }
 
 /// The place of the first of these texts.
@@ -23,67 +127,6 @@ pub(crate) fn text_place(texts: &[Text], text: &[u8]) -> Option<usize>
     let mut place = 0;
     for name in texts {
         if name.as_bytes() == text {
-            return Some(place);
-        }
-        place += 1;
-    }
-    None
-}
-
-// Whether a variable is this global.
-fn is_global(variable: &SharedVariable, text: &[u8]) -> bool
-    ensures { result ≡ same_shared (seen_variable variable.now) (GlobalName text.now) }
-{
-    match variable {
-        SharedVariable::Global(name) => name.as_bytes() == text,
-        SharedVariable::Pool { .. }
-        | SharedVariable::OfClass { .. }
-        | SharedVariable::OfClassInstance { .. } => false,
-    }
-}
-
-// Whether a variable is this one of a pool.
-fn is_of_pool(variable: &SharedVariable, from: &[u8], text: &[u8]) -> bool
-    ensures { result ≡ same_shared (seen_variable variable.now) (PoolName from.now text.now) }
-{
-    match variable {
-        SharedVariable::Pool { pool, name } => pool.as_bytes() == from && name.as_bytes() == text,
-        SharedVariable::Global(_)
-        | SharedVariable::OfClass { .. }
-        | SharedVariable::OfClassInstance { .. } => false,
-    }
-}
-
-// Whether a variable is this class variable.
-fn is_of_class(variable: &SharedVariable, of: u32, text: &[u8]) -> bool
-    ensures { result ≡ same_shared (seen_variable variable.now) (ClassName of text.now) }
-{
-    match variable {
-        SharedVariable::OfClass { class, name } => *class == of && name.as_bytes() == text,
-        SharedVariable::Global(_)
-        | SharedVariable::Pool { .. }
-        | SharedVariable::OfClassInstance { .. } => false,
-    }
-}
-
-// Whether a variable of the program is the one.
-fn is_named(variable: &SharedVariable, key: Key<'_>) -> bool
-    ensures { result ≡ same_shared (seen_variable variable.now) (seen_key key.entry) }
-{
-    match key {
-        Key::Global(text) => is_global(variable, text),
-        Key::Pool { pool, name } => is_of_pool(variable, pool, name),
-        Key::OfClass { class, name } => is_of_class(variable, class, name),
-    }
-}
-
-/// The place of the first such variable of the program.
-pub(crate) fn shared_place(shared: &[SharedVariable], key: Key<'_>) -> Option<usize>
-    ensures { result ≡ place_in 0 (map seen_variable shared.now) (seen_key key.entry) }
-{
-    let mut place = 0;
-    for variable in shared {
-        if is_named(variable, key) {
             return Some(place);
         }
         place += 1;

@@ -13,9 +13,8 @@ ghost use Rattle.st_compiler.specs.Walked.{body_made_of};
 
 use crate::around::Around;
 use crate::draft::{Draft, DraftBody, Frame, narrow};
-use crate::lookup::{Key, shared_place};
+use crate::lookup::{Key, Lookups};
 use object_heap::Value;
-use program_image::Image;
 use sqlite_items::Items;
 use st_base::{MethodSide, OutOfMemory};
 use st_code::CodeKind;
@@ -38,8 +37,8 @@ pub struct Initializer {
 
 /// What is made of the units so far.
 #[derive(Drop)]
-pub(crate) struct Defining<'a> {
-    image: &'a Image,
+pub(crate) struct Defining<'a, 'l> {
+    lookups: &'l Lookups<'a>,
     draft: Draft<'a>,
     initializers: Items<Initializer>,
 }
@@ -48,7 +47,7 @@ impl<'a> Draft<'a> {
     // The body of a method or an initializer, and its number.
     fn top(
         &mut self,
-        image: &'a Image,
+        lookups: &Lookups<'a>,
         class: u32,
         side: MethodSide,
         kind: CodeKind,
@@ -56,39 +55,39 @@ impl<'a> Draft<'a> {
         body: &'a Body,
     ) -> Result<u32, OutOfMemory>
         ensures code { IfOk result (λ n. n ≡ length self.old.bodies) }
-        ensures made { OnOk result (self.new ≡ body_made_of kind (context (image_names image.now) class (side_of side) (length self.old.bodies)) None (map name_text parameters.now) (named_body body.now).temporaries (named_body body.now).statements self.old) }
+        ensures made { OnOk result (self.new ≡ body_made_of kind (context (image_names lookups.now) class (side_of side) (length self.old.bodies)) None (map name_text parameters.now) (named_body body.now).temporaries (named_body body.now).statements self.old) }
     {
         let code = narrow(self.bodies.len())?;
-        let around = Around::outside(self.alloc, image, class, side, code);
+        let around = Around::outside(self.alloc, lookups, class, side, code);
         self.body(&around, kind, None, parameters, body)?;
         Ok(code)
     }
 }
 
 // The place of a variable of the program.
-fn target(image: &Image, key: Key<'_>) -> Result<Option<u32>, OutOfMemory>
-    ensures { IfOk result (λ o. o ≡ place_in 0 (image_names image.now).shared (seen_key key.entry)) }
+fn target(lookups: &Lookups<'_>, key: Key<'_>) -> Result<Option<u32>, OutOfMemory>
+    ensures { IfOk result (λ o. o ≡ place_in 0 (image_names lookups.now).shared (seen_key key.entry)) }
 {
-    match shared_place(image.shared(), key) {
+    match lookups.shared_place(key) {
         Some(place) => Ok(Some(narrow(place)?)),
         None => Ok(None),
     }
 }
 
-impl<'a> Defining<'a> {
+impl<'a, 'l> Defining<'a, 'l> {
     fn method(
         &mut self,
         class: u32,
         side: MethodSide,
         method: &'a Method,
     ) -> Result<(), OutOfMemory>
-        ensures image { OnOk result (self.new.image ≡ self.old.image) }
-        ensures holds { OnOk result ((d : Defined) → Holds self.old d → Holds self.new (with_method (image_names self.old.image.now) class (side_of side) (named_method method.now) d)) }
+        ensures lookups { OnOk result (self.new.lookups ≡ self.old.lookups) }
+        ensures holds { OnOk result ((d : Defined) → Holds self.old d → Holds self.new (with_method (image_names self.old.lookups.now) class (side_of side) (named_method method.now) d)) }
     {
         let parameters = method.parameters.as_slice();
         let kind = CodeKind::Method;
         self.draft
-            .top(self.image, class, side, kind, parameters, &method.body)?;
+            .top(self.lookups, class, side, kind, parameters, &method.body)?;
         Ok(())
     }
 
@@ -100,11 +99,11 @@ impl<'a> Defining<'a> {
         target: Option<u32>,
         body: &'a Body,
     ) -> Result<(), OutOfMemory>
-        ensures image { OnOk result (self.new.image ≡ self.old.image) }
-        ensures holds { OnOk result ((d : Defined) → Holds self.old d → Holds self.new (with_initializer (image_names self.old.image.now) class (side_of side) receiver target (named_body body.now) d)) }
+        ensures lookups { OnOk result (self.new.lookups ≡ self.old.lookups) }
+        ensures holds { OnOk result ((d : Defined) → Holds self.old d → Holds self.new (with_initializer (image_names self.old.lookups.now) class (side_of side) receiver target (named_body body.now) d)) }
     {
         let kind = CodeKind::Initializer;
-        let code = self.draft.top(self.image, class, side, kind, &[], body)?;
+        let code = self.draft.top(self.lookups, class, side, kind, &[], body)?;
         self.initializers.push(Initializer {
             code,
             receiver,
@@ -115,15 +114,15 @@ impl<'a> Defining<'a> {
 
     // The initializer of a class, or of a global.
     fn initializer_of(&mut self, name: &[u8], body: &'a Body) -> Result<(), OutOfMemory>
-        ensures image { OnOk result (self.new.image ≡ self.old.image) }
-        ensures holds { OnOk result ((d : Defined) → Holds self.old d → Holds self.new (initialized (image_names self.old.image.now) (class_in 0 (image_names self.old.image.now).classes name.now) name.now (named_body body.now) d)) }
+        ensures lookups { OnOk result (self.new.lookups ≡ self.old.lookups) }
+        ensures holds { OnOk result ((d : Defined) → Holds self.old d → Holds self.new (initialized (image_names self.old.lookups.now) (class_in 0 (image_names self.old.lookups.now).classes name.now) name.now (named_body body.now) d)) }
     {
-        match self.image.class_number(name) {
+        match self.lookups.image().class_number(name) {
             Some(class) => {
                 self.initializer(class, MethodSide::Class, Value::Class(class), None, body)
             }
             None => {
-                let target = target(self.image, Key::Global(name))?;
+                let target = target(self.lookups, Key::Global(name))?;
                 self.initializer(
                     UNDEFINED_OBJECT,
                     MethodSide::Instance,
@@ -137,10 +136,11 @@ impl<'a> Defining<'a> {
 
     // What a unit defines.
     fn define(&mut self, unit: &'a Unit) -> Result<(), OutOfMemory>
-        ensures image { OnOk result (self.new.image ≡ self.old.image) }
-        ensures holds { OnOk result ((d : Defined) → Holds self.old d → Holds self.new (defined_kind (image_names self.old.image.now) (named_unit unit.now) d)) }
+        ensures lookups { OnOk result (self.new.lookups ≡ self.old.lookups) }
+        ensures holds { OnOk result ((d : Defined) → Holds self.old d → Holds self.new (defined_kind (image_names self.old.lookups.now) (named_unit unit.now) d)) }
     {
-        let image = self.image;
+        let lookups = self.lookups;
+        let image = lookups.image();
         match &unit.kind {
             UnitKind::Method { class, method } => {
                 let class = image.class_number(class.as_bytes()).unwrap_or(0);
@@ -153,7 +153,7 @@ impl<'a> Defining<'a> {
             UnitKind::Initializer { target, body } => self.initializer_of(target.as_bytes(), body),
             UnitKind::PoolInitializer { pool, name, body } => {
                 let (pool, name) = (pool.as_bytes(), name.as_bytes());
-                let target = target(image, Key::Pool { pool, name })?;
+                let target = target(lookups, Key::Pool { pool, name })?;
                 self.initializer(
                     UNDEFINED_OBJECT,
                     MethodSide::Instance,
@@ -183,13 +183,13 @@ impl<'a> Defining<'a> {
     }
 }
 
-impl<'a> Defining<'a> {
-    fn new(alloc: Global, image: &'a Image) -> Defining<'a>
-        ensures image { result.image ≡ image.entry }
+impl<'a, 'l> Defining<'a, 'l> {
+    fn new(alloc: Global, lookups: &'l Lookups<'a>) -> Defining<'a, 'l>
+        ensures lookups { result.lookups ≡ lookups.entry }
         ensures nothing { Holds result nothing_defined }
     {
         Defining {
-            image,
+            lookups,
             draft: Draft {
                 alloc,
                 bodies: Items::new(alloc),
@@ -203,21 +203,21 @@ impl<'a> Defining<'a> {
 
 /// What the units of a file define, and the number that the body of each unit gets.
 #[derive(Drop)]
-pub(crate) struct Definitions<'a> {
-    defining: Defining<'a>,
+pub(crate) struct Definitions<'a, 'l> {
+    defining: Defining<'a, 'l>,
     unit_codes: Items<u32>,
 }
 
-/// What the units of an image define.
-pub(crate) fn definitions_of<'a>(
+/// What the units of the image define.
+pub(crate) fn definitions_of<'a, 'l>(
     alloc: Global,
-    image: &'a Image,
-) -> Result<Definitions<'a>, OutOfMemory>
-    ensures { IfOk result (IsDefined image.now) }
+    lookups: &'l Lookups<'a>,
+) -> Result<Definitions<'a, 'l>, OutOfMemory>
+    ensures { IfOk result (IsDefined lookups.now) }
 {
     let mut unit_codes = Items::new(alloc);
-    let mut defining = Defining::new(alloc, image);
-    for unit in image.definition().units.as_slice() {
+    let mut defining = Defining::new(alloc, lookups);
+    for unit in lookups.image().definition().units.as_slice() {
         unit_codes.push(narrow(defining.draft.bodies.len())?)?;
         defining.define(unit)?;
     }
@@ -227,7 +227,7 @@ pub(crate) fn definitions_of<'a>(
     })
 }
 
-impl<'a> Definitions<'a> {
+impl<'a, 'l> Definitions<'a, 'l> {
     /// The bodies by number.
     pub(crate) fn bodies(&self) -> &[DraftBody]
         ensures { result.now ≡ self.now.defining.draft.bodies }

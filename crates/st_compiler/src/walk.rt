@@ -41,7 +41,7 @@ fn objects_in(literal: &Literal) -> Result<u32, OutOfMemory>
 }
 
 // What a literal is, where its first object has this number.
-fn constant_of(around: &Around<'_>, object: u32, literal: &Literal) -> Constant
+fn constant_of(around: &Around<'_, '_>, object: u32, literal: &Literal) -> Constant
     ensures { constant_value result ≡ (literal_made around.now.names.names object (named_literal literal.now)).item }
 {
     match literal {
@@ -106,7 +106,7 @@ fn is_return(statement: &Statement) -> bool
 }
 
 impl<'a> Draft<'a> {
-    fn literal(&mut self, around: &Around<'a>, literal: &Literal) -> Result<(), OutOfMemory>
+    fn literal(&mut self, around: &Around<'a, '_>, literal: &Literal) -> Result<(), OutOfMemory>
         ensures { OnOk result (self.new ≡ walked.literal_walked around.now.names.names (named_literal literal.now) self.old) }
     {
         self.push(Step::PushConstant(constant_of(around, self.objects, literal)))?;
@@ -134,7 +134,7 @@ impl<'a> Draft<'a> {
     }
 
     #[cycle(walk)]
-    fn primary(&mut self, around: &Around<'a>, primary: &'a Primary) -> Result<(), OutOfMemory>
+    fn primary(&mut self, around: &Around<'a, '_>, primary: &'a Primary) -> Result<(), OutOfMemory>
         ensures { OnOk result (self.new ≡ walked.primary_walked around.now (named_primary primary.now) self.old) }
     {
         match primary {
@@ -148,7 +148,7 @@ impl<'a> Draft<'a> {
     }
 
     #[cycle(walk)]
-    fn block(&mut self, around: &Around<'a>, block: &'a Block) -> Result<(), OutOfMemory>
+    fn block(&mut self, around: &Around<'a, '_>, block: &'a Block) -> Result<(), OutOfMemory>
         ensures { OnOk result (self.new ≡ walked.block_walked around.now (named_block block.now) self.old) }
     {
         let code = narrow(self.bodies.len())?;
@@ -163,7 +163,7 @@ impl<'a> Draft<'a> {
     #[cycle(walk)]
     pub(crate) fn body(
         &mut self,
-        around: &Around<'a>,
+        around: &Around<'a, '_>,
         kind: CodeKind,
         outer: Option<u32>,
         parameters: &'a [Name],
@@ -192,7 +192,7 @@ impl<'a> Draft<'a> {
     #[cycle(walk)]
     fn operand(
         &mut self,
-        around: &Around<'a>,
+        around: &Around<'a, '_>,
         kept: bool,
         operand: &'a Operand,
     ) -> Result<(), OutOfMemory>
@@ -207,7 +207,7 @@ impl<'a> Draft<'a> {
     #[cycle(walk)]
     fn chain(
         &mut self,
-        around: &Around<'a>,
+        around: &Around<'a, '_>,
         to_super: bool,
         kept: bool,
         chain: &'a [Message],
@@ -227,7 +227,7 @@ impl<'a> Draft<'a> {
     #[cycle(walk)]
     fn cascade(
         &mut self,
-        around: &Around<'a>,
+        around: &Around<'a, '_>,
         to_super: bool,
         cascade: &'a [Message],
     ) -> Result<(), OutOfMemory>
@@ -244,7 +244,7 @@ impl<'a> Draft<'a> {
     #[cycle(walk)]
     fn message(
         &mut self,
-        around: &Around<'a>,
+        around: &Around<'a, '_>,
         to_super: bool,
         kept: bool,
         message: &'a Message,
@@ -261,7 +261,7 @@ impl<'a> Draft<'a> {
     }
 
     #[cycle(walk)]
-    fn expr(&mut self, around: &Around<'a>, expr: &'a Expr) -> Result<(), OutOfMemory>
+    fn expr(&mut self, around: &Around<'a, '_>, expr: &'a Expr) -> Result<(), OutOfMemory>
         ensures { OnOk result (self.new ≡ walked.expr_walked around.now (named_expr expr.now) self.old) }
     {
         self.mention_all(expr.targets.as_slice())?;
@@ -273,7 +273,7 @@ impl<'a> Draft<'a> {
     #[cycle(walk)]
     fn statement(
         &mut self,
-        around: &Around<'a>,
+        around: &Around<'a, '_>,
         kind: CodeKind,
         status: Status,
         statement: &'a Statement,
@@ -296,7 +296,7 @@ impl<'a> Draft<'a> {
     #[cycle(walk)]
     fn statements(
         &mut self,
-        around: &Around<'a>,
+        around: &Around<'a, '_>,
         kind: CodeKind,
         statements: &'a [Statement],
     ) -> Result<(), OutOfMemory>
