@@ -1,6 +1,7 @@
 mod Only
 mod Ahead
 mod TakenLemmas
+mod Settling
 mod Counts
 mod Weighing
 mod Weighed

@@ -177,7 +177,7 @@ still_open p n old new file got before now begun front (inl goes_on) more is set
 still_open p n old new file got before now begun front (inr spent) more is settles =
     rw (nothing_more file got more before now front spent.ended is, append-nil got) spent.unsettled
 
-refuse_why : {n m b c : ℕ} {v w : Reason} → Refuse n b v ≡ Refuse m c w → v ≡ w
+pub refuse_why : {n m b c : ℕ} {v w : Reason} → Refuse n b v ≡ Refuse m c w → v ≡ w
 refuse_why is = cc
 
 -- bytes that leave the input open, no more than the longest has, settle no refusal

@@ -2,6 +2,7 @@
 ghost use Rattle.std.specs.Prelude.{◌≡◌, ◌≢◌, ◌-◌, ◌<◌, ◌≤◌, ◌^◌, ℕ, List, [], length, Some, IfSome};
 ghost use Rattle.std.specs.Io.KnownBytes.{append_known};
 ghost use Rattle.st_base.specs.Streams.{Rose};
+ghost use Rattle.sif_chunks.specs.Leaving.{Leaves};
 ghost use Rattle.sif_chunks.specs.Reading.{Takes};
 ghost use Rattle.st_tree.specs.Numbers.{elements_in};
 ghost use Rattle.sif_elements.specs.Steps.{reading, step_of, at_end};
@@ -96,10 +97,11 @@ pub fn read_file<S: Source>(alloc: Global, source: &mut S, appendix: &mut Append
     ensures small { IfRead result.answer IsSmall }
     ensures took { Took (append_known (S.left source.old) appendix.old) (append_known (S.left source.new) appendix.new) }
     ensures unsettled { result.answer ≡ ReadAnswer.ReadFault → IfSome (append_known (S.left source.old) appendix.old) (λ file. LeavesOpen file (append_known (S.left source.new) appendix.new)) }
+    ensures source_unsettled { result.answer ≡ ReadAnswer.ReadFault → IfSome (S.left source.old) (λ bytes. LeavesOpen bytes (S.left source.new)) }
     ensures kept { result.answer ≢ ReadAnswer.ReadFault → S.faults source.new ≡ S.faults source.old }
     ensures failed { result.answer ≡ ReadAnswer.ReadFault → Rose (S.faults source.old) (S.faults source.new) }
     ensures counted { (got : List ℕ) × Takes 0 result.bytes (append_known (S.left source.old) appendix.old) (append_known (S.left source.new) appendix.new) got }
-    ensures spent { appendix.old ≡ [] → appendix.new ≡ [] }
+    ensures leaves { Leaves (S.left source.old) (S.left source.new) appendix.old appendix.new }
 {
     let mut reader = match ChunkReader::new(alloc) {
         Ok(reader) => reader,

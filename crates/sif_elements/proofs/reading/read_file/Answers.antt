@@ -2,6 +2,7 @@
 use Rattle.std.proofs.Common.{◌≡◌, ◌∙◌, ◌+◌, ◌-◌, ◌^◌, ◌<◌, List, refl, sym, subst, arith}
 use Rattle.std.specs.Io.KnownBytes.{append_known}
 use Rattle.sif_chunks.specs.Reading.{judged}
+use Rattle.sif_chunks.proofs.Leaving.{leaves_all, leaves_leaves}
 use Rattle.sif_chunks.specs.declared.next.Next.TheVariants as next
 use Rattle.st_tree.specs.Numbers.{elements_in}
 use Rattle.st_tree.specs.declared.units.Unit.{Unit}
@@ -11,6 +12,7 @@ use Rattle.sif_elements.specs.Turns.{Onward, turn_of}
 use Rattle.sif_elements.proofs.Only.{takes_of}
 use Rattle.sif_elements.proofs.Ahead.{IsBefore-new, IsBefore-given, at_start, at_answer, after_element, answered, turn_goes, step_goes, fault_fails, no_fault, if_read, if_ended, if_between}
 use Rattle.sif_elements.proofs.TakenLemmas.{taken_at_start, taken_on, counted_at_start, counted_on, counted_takes, took, fault_leaves_open}
+use Rattle.sif_elements.proofs.Settling.{source_open}
 use Rattle.sif_elements.proofs.TextBytes.{text_judged}
 use Rattle.sif_elements.proofs.Sized.{IsSized, sized_at_start, sized_more, small_between}
 use Rattle.sif_elements.proofs.Counts.{few_more}
@@ -20,7 +22,7 @@ pub loop-after-init : goal.loop-after-init
 loop-after-init g c = rw c.in-Ok.ensures record {
   ahead = (1, IsBefore-new, at_start (append_known (g.S.Source.left c.args.source.now) c.args.appendix.now), taken_at_start (append_known (g.S.Source.left c.args.source.now) c.args.appendix.now));
   counted = counted_at_start (append_known (g.S.Source.left c.args.source.now) c.args.appendix.now);
-  spent = λ none. none;
+  leaves = leaves_all (g.S.Source.left c.args.source.now) c.args.appendix.now;
   faults = refl;
   bound = omega arith;
   held = omega arith;
@@ -58,7 +60,7 @@ loop-after-preserved g c =
         taken_on p q n old new c.next_with-next.result first before after begun c.next_with-next.ensures.settled c.next_with-next.ensures.answer turns c.loop-after.invariant.ahead.3,
       );
       counted = counted_on c.next_with-next.result old new first before after c.next_with-next.ensures.settled c.loop-after.invariant.counted;
-      spent = λ none. c.next_with-next.ensures.spent (c.loop-after.invariant.spent none);
+      leaves = leaves_leaves (g.S.Source.left c.args.source.now) (g.S.Source.left c.loop-after.source) (g.S.Source.left c.next_with-next.new.source) c.args.appendix.now c.loop-after.appendix c.next_with-next.new.appendix c.loop-after.invariant.leaves c.next_with-next.ensures.leaves;
       faults = c.next_with-next.ensures.kept (λ fault. let k : next.Element ≡ next.ReadFault = sym element ∙ fault in cc) ∙ c.loop-after.invariant.faults;
       bound = c.next_with-next.ensures.bound;
       held = bytes.0;
@@ -88,6 +90,18 @@ pub returns-in-Ends-clause-unsettled : goal.returns-in-Ends-clause-unsettled
 returns-in-Ends-clause-unsettled g c = λ fault.
     let fails = fault_fails c.loop-after.progress c.next_with-next.result c.in-Ends.answer c.next_with-next.new.self.number c.next_with-next.new.self.text c.in-Ends.ensures.made fault in
     fault_leaves_open c.loop-after.progress c.loop-after.invariant.ahead.0 c.loop-after.reader c.next_with-next.new.self (append_known (g.S.Source.left c.args.source.now) c.args.appendix.now) (append_known (g.S.Source.left c.loop-after.source) c.loop-after.appendix) (append_known (g.S.Source.left c.next_with-next.new.source) c.next_with-next.new.appendix) c.loop-after.invariant.ahead.1 (rw fails at c.next_with-next.ensures.settled) (c.next_with-next.ensures.input (rw fails at c.next_with-next.ensures.stop)) c.loop-after.invariant.ahead.3
+
+pub returns-in-Ends-clause-leaves : goal.returns-in-Ends-clause-leaves
+returns-in-Ends-clause-leaves g c =
+    leaves_leaves (g.S.Source.left c.args.source.now) (g.S.Source.left c.loop-after.source) (g.S.Source.left c.next_with-next.new.source) c.args.appendix.now c.loop-after.appendix c.next_with-next.new.appendix c.loop-after.invariant.leaves c.next_with-next.ensures.leaves
+
+pub returns-in-Ends-clause-source_unsettled : goal.returns-in-Ends-clause-source_unsettled
+returns-in-Ends-clause-source_unsettled g c = λ fault.
+    source_open (g.S.Source.left c.args.source.now) (g.S.Source.left c.next_with-next.new.source) c.args.appendix.now c.next_with-next.new.appendix
+    (returns-in-Ends-clause-leaves g c) (returns-in-Ends-clause-unsettled g c fault)
+
+pub returns-in-Err-clause-leaves : goal.returns-in-Err-clause-leaves
+returns-in-Err-clause-leaves g c = leaves_all (g.S.Source.left c.args.source.now) c.args.appendix.now
 
 pub returns-in-Ends-clause-kept : goal.returns-in-Ends-clause-kept
 returns-in-Ends-clause-kept g c = λ other.
