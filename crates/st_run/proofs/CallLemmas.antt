@@ -18,7 +18,7 @@ use Rattle.st_run.specs.Reports.{read_fault_line, memory_line}
 use Rattle.st_run.specs.Outcomes as Outcomes
 use Rattle.st_run.specs.Outcomes.{Outcome, refused, usage, OfTask, IsEnding, DoneBy}
 use Rattle.st_run.specs.Commands.{ForBytes, Reads, IsValid, IsValidFor, DoneStatus, Does, OfRules, behind, file_of}
-use Rattle.st_run.specs.Headline.{IsDone, IsReported, LeftOpen, StopsIn, in_output, in_report, in_read_fault, in_want, Finishes, finished, stops_in_output, stops_in_report, stops_in_want, wants, EndsBy, DoesTold, Calls, finishes, lacks, fails, stops_in_fault}
+use Rattle.st_run.specs.Headline.{IsDone, IsReported, StopsIn, in_output, in_report, in_read_fault, in_want, Finishes, finished, stops_in_output, stops_in_report, stops_in_want, wants, EndsBy, DoesTold, Calls, finishes, lacks, fails, stops_in_fault}
 use Rattle.st_run.proofs.SomeOutcome.{some_outcome, some_of_rules, of_task_status}
 
 -- what holds of the outcome holds for the command
@@ -197,7 +197,7 @@ module _ (command : Option Command) (left left' : Option (List ℕ)) (R W T : Ty
   fault_cause (fails at is r reads opens) eight = (r, reads)
   fault_cause (stops_in_fault nine t r same part reads) eight = cc
 
-  pub fault_open : Calls command left left' R W T out out' report report' status → status ≡ 8 → IfSome left (λ bytes. LeftOpen command bytes left')
+  pub fault_open : Calls command left left' R W T out out' report report' status → status ≡ 8 → IfSome left (λ bytes. LeavesOpen bytes left')
   fault_open (finishes outcome f is end) eight = absurd (not_8 outcome W T out out' report report' status f eight)
   fault_open (lacks f (inl nine)) eight = cc
   fault_open (lacks f (inr ten)) eight = cc
@@ -280,16 +280,12 @@ module _ (c : Command) (left left' : Option (List ℕ)) (lines lines' : List ℕ
   refused_calls place why same is f =
       finishes (refused place why) (any_write (refused place why) W T out out report report' status f) (refused_does left place why (known_file c left lines (λ file. reading file ≡ Refuse place.element place.byte why) same is)) (λ at. absurd (no_ending (refused place why) ⊥ T out out report report' status (not_1_or_2 1 (inl refl)) f at))
 
-  -- what was taken leaves the file open
-  stays_open : (left : Option (List ℕ)) → lines ≡ behind c → (lines ≡ [] → lines' ≡ []) → IfSome (append_known left lines) (λ file. LeavesOpen file (append_known left' lines')) → IfSome left (λ bytes. LeftOpen (Some c) bytes left')
-  stays_open None same spent opens = tt
-  stays_open (Some bytes) same spent opens = record { behind_left = lines'; plain = λ none. spent (same ∙ none); opens = rw same at opens }
-
-  pub fault_calls : lines ≡ behind c → (lines ≡ [] → lines' ≡ []) → (status ≢ 9 → (status ≡ 8) × (report' ≡ append_known report read_fault_line)) → (status ≡ 9 → GainsPrefix report report' read_fault_line × T) → R → IfSome (append_known left lines) (λ file. LeavesOpen file (append_known left' lines')) → Calls (Some c) left left' R W T out out report report' status
-  fault_calls same spent whole part r opens = elim (eqb_tells status 9) [
-    | inl at ↦ stops_in_fault at.1 (part at.1).1 r refl (part at.1).0 tt
-    | inr other ↦ fails (whole other.1).0 (record { wrote = refl; told = (whole other.1).1 }) r tt (stays_open left same spent opens)
-  ]
+pub fault_calls : (c : Command) (left left' : Option (List ℕ)) (R W T : Type 0) (out report report' : Option (List ℕ)) (status : ℕ)
+    → (status ≢ 9 → (status ≡ 8) × (report' ≡ append_known report read_fault_line)) → (status ≡ 9 → GainsPrefix report report' read_fault_line × T) → R → IfSome left (λ bytes. LeavesOpen bytes left') → Calls (Some c) left left' R W T out out report report' status
+fault_calls c left left' R W T out report report' status whole part r opens = elim (eqb_tells status 9) [
+  | inl at ↦ stops_in_fault at.1 (part at.1).1 r refl (part at.1).0 tt
+  | inr other ↦ fails (whole other.1).0 (record { wrote = refl; told = (whole other.1).1 }) r tt opens
+]
 
 pub usage_calls : (command : Option Command) (left left' : Option (List ℕ)) (R W T : Type 0) (out report report' : Option (List ℕ)) (status : ℕ) → command ≡ None → Finishes usage ⊥ T out out report report' status → Calls command left left' R W T out out report report' status
 usage_calls command left left' R W T out report report' status is f = finishes usage (any_write usage W T out out report report' status f) (rw is refl) (λ at. absurd (no_ending usage ⊥ T out out report report' status (not_1_or_2 2 (inr refl)) f at))

@@ -6,7 +6,7 @@ use Rattle.sif_elements.specs.Answered.{LeavesOpen}
 use Rattle.st_words.specs.declared.command.Command.{Command}
 use Rattle.st_run.specs.Reports.{read_fault_line, memory_line}
 use Rattle.st_run.specs.Outcomes.{Outcome, IsEnding}
-use Rattle.st_run.specs.Commands.{Does, Reads, file_of, behind}
+use Rattle.st_run.specs.Commands.{Does, Reads}
 
 -- the output and the report of an outcome were written, and its status answered
 pub record IsDone (outcome : Outcome) (out out' report report' : Option (List ℕ)) (status : ℕ) : Type 0 where
@@ -18,16 +18,6 @@ pub record IsDone (outcome : Outcome) (out out' report report' : Option (List �
 pub record IsReported (line : List ℕ) (out out' report report' : Option (List ℕ)) : Type 0 where
   pub wrote : out' ≡ out
   pub told : report' ≡ append_known report line
-
--- what was taken of the file that a command reads settles no refusal. Where nothing stands behind the input, this is what was taken of the input; how much is left of what stands behind it isn't said
-pub record StaysOpen (c : Command) (bytes : List ℕ) (left : Option (List ℕ)) : Type 0 where
-  pub behind_left : List ℕ
-  pub plain : behind c ≡ [] → behind_left ≡ []
-  pub opens : LeavesOpen (file_of c bytes) (append_known left behind_left)
-
-abbrev pub LeftOpen : Option Command → List ℕ → Option (List ℕ) → Type 0
-LeftOpen None bytes left = ⊥
-LeftOpen (Some c) bytes left = StaysOpen c bytes left
 
 -- where a write stopped: in the output, in the outcome's lines, or in the line of a read fault or want of memory
 pub data StopsIn (outcome : Outcome) (read written told : Type 0) (out out' report report' : Option (List ℕ)) : Type 0 where
@@ -55,11 +45,11 @@ abbrev pub DoesTold : Option Command → Option (List ℕ) → Outcome → Type 
 DoesTold None left o = Does None [] o
 DoesTold (Some c) left o = IfSome left (λ bytes. Does (Some c) bytes o)
 
--- how a call ends: with its outcome, whether its bytes are told or not; for want of memory; or with a read fault
+-- how a call ends: with its outcome, whether its bytes are told or not; for want of memory; or with a read fault, before which the bytes that were taken of the source settle no refusal
 pub data Calls (command : Option Command) (left left' : Option (List ℕ)) (read written told : Type 0) (out out' report report' : Option (List ℕ)) (status : ℕ) : Type 0 where
   finishes : (outcome : Outcome) → Finishes outcome written told out out' report report' status → DoesTold command left outcome
       → (IsEnding status → IfSome left' (λ bytes. bytes ≡ [])) → Calls command left left' read written told out out' report report' status
   lacks : ((outcome : Outcome) → Finishes outcome written told out out' report report' status) → (status ≡ 9) ⊎ (status ≡ 10) → Calls command left left' read written told out out' report report' status
-  fails : status ≡ 8 → IsReported read_fault_line out out' report report' → read → Reads command → IfSome left (λ bytes. LeftOpen command bytes left')
+  fails : status ≡ 8 → IsReported read_fault_line out out' report report' → read → Reads command → IfSome left (λ bytes. LeavesOpen bytes left')
       → Calls command left left' read written told out out' report report' status
   stops_in_fault : status ≡ 9 → told → read → out' ≡ out → GainsPrefix report report' read_fault_line → Reads command → Calls command left left' read written told out out' report report' status

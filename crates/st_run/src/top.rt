@@ -1,11 +1,12 @@
 // The top call: what the program does.
 ghost use Rattle.std.specs.Prelude.{◌≡◌, ◌≢◌, ◌⊎◌, map, string_bytes, IfOk, IfSome, Some, []};
 ghost use Rattle.st_base.specs.Streams.{Rose};
+ghost use Rattle.sif_elements.specs.Answered.{LeavesOpen};
 ghost use Rattle.st_words.specs.CommandLine.{command_of, IsInBounds};
 ghost use Rattle.st_run.specs.Reports.{read_fault_line, memory_line};
 ghost use Rattle.st_run.specs.Outcomes.{IsEnding};
 ghost use Rattle.st_run.specs.Commands.{behind, DoneStatus, ForBytes, IsValid, Reads};
-ghost use Rattle.st_run.specs.Headline.{Calls, IsDone, IsReported, LeftOpen, StopsIn};
+ghost use Rattle.st_run.specs.Headline.{Calls, IsDone, IsReported, StopsIn};
 
 use crate::finish::{judge, refuse, report_usage, report_want_of_memory, tell};
 use crate::report::READ_FAULT;
@@ -109,7 +110,7 @@ pub fn stx<S: Source, K: Sink, E: Sink>(
     // A read fault: a command read, the source failed, and what it gave before settles no refusal.
     ensures read_fault { result ≡ 8 → IsReported read_fault_line (K.written out.old) (K.written out.new) (E.written report.old) (E.written report.new) }
     ensures read_cause { result ≡ 8 → Rose (S.faults source.old) (S.faults source.new) × Reads (command_of (map string_bytes words.now)) }
-    ensures read_open { result ≡ 8 → IfSome (S.left source.old) (λ bytes. LeftOpen (command_of (map string_bytes words.now)) bytes (S.left source.new)) }
+    ensures read_open { result ≡ 8 → IfSome (S.left source.old) (λ bytes. LeavesOpen bytes (S.left source.new)) }
 
     // A write fault: the output or the report failed, and holds a prefix of what was to be written.
     ensures write_fault { result ≡ 9 → ForBytes (command_of (map string_bytes words.now)) (S.left source.old)

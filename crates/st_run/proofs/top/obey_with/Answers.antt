@@ -15,5 +15,5 @@ returns-in-Refused g c =
 
 pub returns-in-ReadFault : goal.returns-in-ReadFault
 returns-in-ReadFault g c =
-    fault_calls c.args.command _ _ c.new-appendix.result c.read_file-read.new.appendix _ _ _ (g.K.Sink.written c.args.out.now) (g.K.Sink.written c.args.out.now) _ _ _ (c.new-appendix.ensures ∙ c.requires.lines) c.read_file-read.ensures.spent c.tell.ensures.told (λ nine. c.tell.ensures.part (λ is. cc) nine)
-    (c.read_file-read.ensures.failed c.in-ReadFault.is) (c.read_file-read.ensures.unsettled c.in-ReadFault.is)
+    fault_calls c.args.command _ _ _ _ _ (g.K.Sink.written c.args.out.now) _ _ _ c.tell.ensures.told (λ nine. c.tell.ensures.part (λ is. cc) nine)
+    (c.read_file-read.ensures.failed c.in-ReadFault.is) (c.read_file-read.ensures.source_unsettled c.in-ReadFault.is)
