@@ -1,6 +1,6 @@
 -- Maps of the variables of a scope, as names are noted.
-use Rattle.std.proofs.Common.{◌≡◌, ℕ, suc, ◌+◌, ◌<◌, ◌≤◌, Bool, true, false, cond, List, [], ◌∷◌, ◌++◌, map, drop, length, get_or, Option, Some, None, refl, ap, sym, ◌∙◌, arith}
-use Rattle.std.proofs.lemmas.List.{drop_all, length-map}
+use Rattle.std.proofs.Common.{◌≡◌, ℕ, suc, ◌+◌, ◌<◌, ◌≤◌, Bool, true, false, cond, List, [], ◌∷◌, ◌++◌, map, drop, take, length, get_or, Option, Some, None, refl, ap, sym, ◌∙◌, arith}
+use Rattle.std.proofs.lemmas.List.{drop_all, length-map, length-take-le, take_more}
 use Rattle.std.proofs.lemmas.Slice.Eq.{bytes_eq-Decides}
 use Rattle.std.specs.Borrow.{Bor}
 use Rattle.std.specs.HashMap.{HashMap, get, get_by}
@@ -98,3 +98,15 @@ module _ {S : Type 0} where
         second.each q
         ∙ both-lists (get same_bytes m1 q) (map name_text ps) (map name_text ts) q.now n (first.each q ∙ ap (λ o. option_or o (text_in 0 (map name_text ps) q.now)) none) (count ∙ sym (length-map ps name_text));
   }
+
+  -- the places of one name more
+  pub names-more : (m0 m1 : HashMap (Bor Text) ℕ S) (texts : List Text) (i place : ℕ) (u v : Text) → u ≡ get_or texts i u → i < length texts → v ≡ u → place ≡ i → HasPlaces (take i texts) m0 → GainsPlaces m0 (v ∷ []) place m1 → HasPlaces (take (i + 1) texts) m1
+  names-more m0 m1 texts i place u v is low same number before gains =
+      let whole : take i texts ++ u ∷ [] ≡ take (i + 1) texts = rw (take_more texts i u low, ← is) refl in
+      let count : place ≡ length (take i texts) = omega (arith, number, length-take-le i texts (omega (arith, low))) in
+      record {
+        each = λ q.
+            gains.each q
+            ∙ both-lists (get same_bytes m0 q) (take i texts) (v ∷ []) q.now place (before.each q) count
+            ∙ ap (λ us. text_in 0 us q.now) (ap (λ (w : Text). take i texts ++ w ∷ []) same ∙ whole);
+      }

@@ -9,7 +9,8 @@ ghost use Rattle.program_image.specs.Images.{image_names};
 ghost use Rattle.st_compiler.specs.Steps.{seen_meaning};
 ghost use Rattle.st_compiler.specs.Around.{side_of, names_of_class, seen_key, in_one_class, named_globally};
 
-use crate::lookup::{Key, Lookups, text_place};
+use crate::class_names::ClassNames;
+use crate::lookup::{Key, Lookups};
 use crate::scope::Scope;
 use crate::step::{Meaning, Place};
 use object_heap::Value;
@@ -47,21 +48,21 @@ fn class_at(image: &Image, class: u32) -> Option<&Class>
 }
 
 // A named slot of the instances of a class.
-fn slot(class: &Class, text: &[u8]) -> Option<Meaning>
+fn slot(class: &ClassNames<'_>, text: &[u8]) -> Option<Meaning>
     ensures { option_map seen_meaning result ≡ own_names (seen_class class.now) OfInstance text.now }
 {
-    match text_place(class.instance_names.as_slice(), text) {
-        Some(place) => Some(Meaning::At(Place::Slot(class.base as usize + place))),
+    match class.instance_place(text) {
+        Some(place) => Some(Meaning::At(Place::Slot(class.base() as usize + place as usize))),
         None => None,
     }
 }
 
 // A class instance variable of a class.
-fn class_slot(class: &Class, text: &[u8]) -> Option<Meaning>
+fn class_slot(class: &ClassNames<'_>, text: &[u8]) -> Option<Meaning>
     ensures { option_map seen_meaning result ≡ own_names (seen_class class.now) OfClass text.now }
 {
-    match text_place(class.class_instance_names.as_slice(), text) {
-        Some(place) => Some(Meaning::At(Place::ClassSlot(place))),
+    match class.class_instance_place(text) {
+        Some(place) => Some(Meaning::At(Place::ClassSlot(place as usize))),
         None => None,
     }
 }
@@ -235,7 +236,7 @@ impl<'a, 'l> Around<'a, 'l> {
     fn own(&self, text: &[u8]) -> Option<Meaning>
         ensures { option_map seen_meaning result ≡ own_names (class_names_at self.now.names.classes self.now.class) self.now.side text.now }
     {
-        let Some(class) = class_at(self.lookups.image(), self.class) else {
+        let Some(class) = self.lookups.class(self.class) else {
             return None;
         };
         match self.side {

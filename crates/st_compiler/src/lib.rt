@@ -2,6 +2,7 @@
 #![tactic(auto)]
 
 mod around;
+mod class_names;
 mod draft;
 pub mod law;
 mod loaded;

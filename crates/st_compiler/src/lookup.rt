@@ -1,15 +1,17 @@
-// The image that is compiled, with the places of its variables.
-ghost use Rattle.std.specs.Prelude.{◌≡◌, ◌<◌, length, map, IfOk, IfSome, OnOk};
+// The image that is compiled, with the places of its variables, found by their keys.
+ghost use Rattle.std.specs.Prelude.{◌≡◌, map, IfOk, OnOk};
 ghost use Rattle.std.specs.Option.{option_map};
-ghost use Rattle.st_code.specs.Resolved.{text_in, place_in};
+ghost use Rattle.st_code.specs.Resolved.{class_names_at, place_in};
 ghost use Rattle.program_image.specs.Classes.{seen_variable};
 ghost use Rattle.program_image.specs.Images.{image_names};
-ghost use Rattle.st_compiler.specs.Around.{seen_key};
+ghost use Rattle.st_compiler.specs.Around.{names_of_class, seen_key};
 ghost use Rattle.st_compiler.specs.Shared.{keyed, HasPlaces, GainsPlace};
 
+use crate::class_names::{ClassNames, class_names_of};
 use indexmap::IndexMap;
 use program_image::{Image, SharedVariable};
-use st_base::{OutOfMemory, Text};
+use sqlite_items::Items;
+use st_base::OutOfMemory;
 use std::alloc::Global;
 use std::marker::Model;
 
@@ -71,19 +73,21 @@ fn places_of<'a>(
     Ok(places)
 }
 
-/// The image that is compiled, with the places of its variables by their keys. Contracts see it as
-/// the units of its file.
+/// The image that is compiled, with the places of its variables by their keys, and those of each
+/// class by their names. Contracts see it as the units of its file.
 #[derive(Drop)]
 pub(crate) struct Lookups<'a> {
     image: &'a Image,
     places: IndexMap<Key<'a>, usize>,
+    classes: Items<ClassNames<'a>>,
 }
 
 impl<'a> Model for Lookups<'a> {
-    ghost use Rattle.std.specs.Prelude.{List};
+    ghost use Rattle.std.specs.Prelude.{◌≡◌, List, map};
     ghost use Rattle.std.specs.Coded.{coded_list};
     ghost use Rattle.st_tree.specs.contracts.units.Unit as unit;
     ghost use Rattle.st_tree.specs.declared.units.Unit.{Unit};
+    ghost use Rattle.program_image.specs.Classes.{seen_class};
     ghost use Rattle.program_image.specs.Images.{image_names};
     ghost use Rattle.st_compiler.specs.Shared.{HasPlaces};
 
@@ -93,7 +97,7 @@ impl<'a> Model for Lookups<'a> {
 
     ghost view = { λ l. l.image.now };
 
-    ghost invariant = { λ l. HasPlaces (image_names l.image.now).shared l.places };
+    ghost invariant = { λ l. HasPlaces (image_names l.image.now).shared l.places × (map seen_class l.classes ≡ (image_names l.image.now).classes) };
 }
 
 impl<'a> Lookups<'a> {
@@ -101,7 +105,12 @@ impl<'a> Lookups<'a> {
         ensures { IfOk result (λ l. l ≡ image.now) }
     {
         let places = places_of(alloc, image.shared())?;
-        Ok(Lookups { image, places })
+        let classes = class_names_of(alloc, image.classes())?;
+        Ok(Lookups {
+            image,
+            places,
+            classes,
+        })
     }
 
     /// The image.
@@ -117,19 +126,11 @@ impl<'a> Lookups<'a> {
     {
         self.places.get(&key).copied()
     }
-}
 
-/// The place of the first of these texts.
-pub(crate) fn text_place(texts: &[Text], text: &[u8]) -> Option<usize>
-    ensures place { result ≡ text_in 0 texts.now text.now }
-    ensures there { IfSome result (λ n. n < length texts.now) }
-{
-    let mut place = 0;
-    for name in texts {
-        if name.as_bytes() == text {
-            return Some(place);
-        }
-        place += 1;
+    /// A class by its number, with the places of its variables.
+    pub(crate) fn class(&self, class: u32) -> Option<&ClassNames<'a>>
+        ensures { names_of_class result ≡ class_names_at (image_names self.now).classes class }
+    {
+        self.classes.as_slice().get(class as usize)
     }
-    None
 }

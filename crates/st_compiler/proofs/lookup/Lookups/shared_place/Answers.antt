@@ -8,5 +8,5 @@ use Rattle.st_compiler.proofs.lookup.Lookups.shared_place.Goals as goal
 
 pub returns : goal.returns
 returns c =
-    c.copied.ensures ∙ c.get.ensures.value ∙ get-key c.self.inside.places c.args.key ∙ c.self.invariant.each c.args.key
+    c.copied.ensures ∙ c.get.ensures.value ∙ get-key c.self.inside.places c.args.key ∙ c.self.invariant.0.each c.args.key
     ∙ ap (λ (units : List Unit). place_in 0 (image_names units).shared (seen_key c.args.key)) c.self.view_is
