@@ -6,6 +6,3 @@ mod cell_heap;
 mod place;
 
 pub use cell_heap::CellHeap;
-
-#[cfg(test)]
-mod tests;

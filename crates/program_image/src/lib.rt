@@ -9,9 +9,8 @@ pub mod law;
 mod methods;
 mod spelled;
 mod table;
-#[cfg(test)]
-mod tests;
 
 pub use class::{Class, SharedVariable};
 pub use image::{Image, build};
+pub use spelled::spell_body;
 pub use table::{Found, Side};

@@ -130,8 +130,9 @@ fn spell_statement(names: &mut Names, statement: &Statement) -> Result<(), OutOf
     }
 }
 
+/// Each selector and symbol that a body spells has a number, in the order of the text.
 #[cycle(spell)]
-fn spell_body(names: &mut Names, body: &Body) -> Result<(), OutOfMemory>
+pub fn spell_body(names: &mut Names, body: &Body) -> Result<(), OutOfMemory>
     ensures { OnOk result (names.new ≡ spelled names.old (statements_texts (named_body body.now).statements)) }
 {
     spell_statements(names, &body.statements)

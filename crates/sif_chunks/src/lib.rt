@@ -7,8 +7,6 @@ mod law;
 mod next;
 mod reader;
 mod step;
-#[cfg(test)]
-mod tests;
 mod turn;
 mod window;
 mod writer;

@@ -9,9 +9,5 @@ pub mod headers;
 pub mod law;
 pub mod progress;
 pub mod reading;
-#[cfg(test)]
-mod reading_tests;
 pub mod rows;
-#[cfg(test)]
-mod tests;
 pub mod words;

@@ -7,8 +7,6 @@ mod law;
 mod pieces;
 mod sign;
 mod symbols;
-#[cfg(test)]
-mod tests;
 mod trees;
 mod units;
 mod words;

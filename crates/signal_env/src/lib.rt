@@ -4,8 +4,6 @@
 mod handlers;
 pub mod law;
 mod lookups;
-#[cfg(test)]
-mod tests;
 mod turns;
 
 pub use handlers::{Search, find_handler, fits, is_plain};

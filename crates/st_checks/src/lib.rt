@@ -4,8 +4,6 @@
 
 mod answer;
 mod bodies;
-#[cfg(test)]
-mod body_tests;
 mod broken;
 mod built_in;
 mod classes;
@@ -17,8 +15,6 @@ mod meaning;
 mod rules;
 mod scopes;
 mod table;
-#[cfg(test)]
-mod tests;
 mod view;
 
 pub use answer::{CheckAnswer, Checked, check};

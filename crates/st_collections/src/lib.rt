@@ -29,6 +29,3 @@ pub use message::{
     CollectionMessage, OfCharacter, OfMaking, OfOrdered, OfPair, OfSequence, OfString,
 };
 pub use ordered::is_ordered;
-
-#[cfg(test)]
-mod tests;

@@ -11,8 +11,6 @@ mod names;
 mod placing;
 mod scope;
 mod step;
-#[cfg(test)]
-mod tests;
 mod units;
 mod walk;
 

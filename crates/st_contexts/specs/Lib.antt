@@ -2,3 +2,4 @@ pub mod Marks
 pub mod Stack
 pub mod Flat
 pub mod Watched
+pub mod Moving

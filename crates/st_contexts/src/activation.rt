@@ -1,6 +1,8 @@
 // What an activation is for, with what it keeps.
 ghost use Rattle.std.specs.Prelude.{◌≡◌};
+ghost use Rattle.std.specs.Option.{option_map};
 ghost use Rattle.st_contexts.specs.Marks.{mark_in, frame_in};
+ghost use Rattle.st_contexts.specs.Moving.{body_in, next_frame, next_in};
 
 use crate::outcome::Outcome;
 use object_heap::Value;
@@ -153,7 +155,36 @@ pub enum Mark {
     Loop,
 }
 
+impl Frame {
+    // It is at its next instruction.
+    fn go_on(&mut self)
+        ensures { self.new ≡ next_frame self.old }
+    {
+        self.position = self.position.saturating_add(1);
+    }
+}
+
 impl Activation {
+    /// What it runs, if it is a body that goes on.
+    pub fn body(&self) -> Option<&Frame>
+        ensures { option_map (λ f. f.now) result ≡ body_in self.now }
+    {
+        match self {
+            Activation::Body(frame) => Some(frame),
+            _ => None,
+        }
+    }
+
+    /// A body is at its next instruction.
+    pub(crate) fn go_on(&mut self)
+        ensures { self.new ≡ next_in self.old }
+    {
+        match self {
+            Activation::Body(frame) => frame.go_on(),
+            _ => (),
+        }
+    }
+
     /// What it runs, if it is a body.
     pub fn frame(self) -> Option<Frame>
         ensures { result ≡ frame_in self }

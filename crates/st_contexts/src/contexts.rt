@@ -2,7 +2,9 @@
 ghost use Rattle.std.specs.Prelude.{◌≡◌, ℕ, ◌+◌, ◌-◌, ◌<◌, ◌≤◌, ◌^◌, IfOk, length, reverse, get_or, nat_lt, if◌then◌else◌};
 ghost use Rattle.st_contexts.specs.Marks.{entry_of};
 ghost use Rattle.st_contexts.specs.Stack.{new_stack, pushed, push_answer, popped, innermost_of, top_kept, frame_of, top_env, with_kept, with_env, value_pushed, value_popped, top_value, variable_of, with_variable, stands_in, outer_in, kept_of, mark_of, env_of, operands_of, operand_at, numbered_at, entry_in, env_in, with_outside};
+ghost use Rattle.std.specs.Option.{option_map};
 ghost use Rattle.st_contexts.specs.Flat.{Falls, place_in};
+ghost use Rattle.st_contexts.specs.Moving.{body_of, moved_here};
 
 use crate::activation::{Activation, Entry, Env, Frame, Mark, Numbered};
 use object_heap::Value;
@@ -148,6 +150,26 @@ impl Contexts {
             Some(slot) => slot.kept.frame(),
             None => None,
         }
+    }
+
+    /// What the innermost activation runs, if it is a body that goes on.
+    pub fn body(&self) -> Option<&Frame>
+        ensures { option_map (λ f. f.now) result ≡ body_of self.now }
+    {
+        match self.slots.last() {
+            Some(slot) => slot.kept.body(),
+            None => None,
+        }
+    }
+
+    /// The innermost body is at its next instruction.
+    pub fn go_on(&mut self)
+        ensures { self.new ≡ moved_here self.old }
+    {
+        let Some(slot) = self.slots.last_mut() else {
+            return;
+        };
+        slot.kept.go_on();
     }
 
     /// The environment of the innermost activation.

@@ -4,8 +4,6 @@
 mod activation;
 mod contexts;
 mod outcome;
-#[cfg(test)]
-mod tests;
 mod watch;
 
 pub use activation::{

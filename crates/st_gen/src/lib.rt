@@ -3,8 +3,6 @@
 
 mod kept;
 mod lines;
-#[cfg(test)]
-mod tests;
 
 pub use kept::Kept;
 pub use lines::{gen_line, generated};

@@ -8,8 +8,6 @@ mod law;
 mod numbers;
 mod scan;
 mod spans;
-#[cfg(test)]
-mod tests;
 
 pub use bytes::{is_identifier, is_letter, is_operator_byte, is_word_byte};
 pub use law::{each_text_lexes_once, tokens_stand_in_order};

@@ -5,7 +5,5 @@ mod cells;
 mod gather;
 mod make;
 mod opened;
-#[cfg(test)]
-mod tests;
 
 pub use opened::literal_heap;

@@ -31,6 +31,3 @@ pub use requests::{is_kept, is_receiver};
 pub use state::{Arguments, LoopState};
 pub use step::LoopStep;
 pub use troubles::first_trouble;
-
-#[cfg(test)]
-mod tests;

@@ -20,8 +20,8 @@ impl<H: Heap> Machine<H> {
         deliver(&mut self.contexts, frame, value);
     }
 
-    // What a variable holds.
-    fn read(&self, variable_: Variable, frame: Frame) -> Value
+    /// What a variable holds.
+    pub fn read(&self, variable_: Variable, frame: Frame) -> Value
         ensures { result ≡ variable_read variable_ frame self.now }
     {
         match variable_ {
@@ -44,8 +44,8 @@ impl<H: Heap> Machine<H> {
         self.push(frame, value);
     }
 
-    // Writes a variable.
-    fn write(&mut self, variable: Variable, value: Value, frame: Frame)
+    /// Writes a variable.
+    pub fn write(&mut self, variable: Variable, value: Value, frame: Frame)
         ensures { self.new ≡ variable_written variable value frame self.old }
     {
         match variable {
@@ -71,8 +71,8 @@ impl<H: Heap> Machine<H> {
         advance(&mut self.contexts, frame);
     }
 
-    // Makes a block of this activation.
-    fn make_block(&mut self, code: u32, frame: Frame)
+    /// Makes a block of this activation.
+    pub fn make_block(&mut self, code: u32, frame: Frame)
         ensures { self.new ≡ block_made code frame self.old }
     {
         let closure = Closure {

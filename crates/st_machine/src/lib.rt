@@ -25,5 +25,6 @@ mod works;
 
 pub use loaded::Loaded;
 pub use machine::Machine;
-pub use running::{Progress, Stats};
+pub use operands::Passed;
+pub use running::{Progress, Stats, goes_on, left_after};
 pub use work::{Ending, Mode, Telling, Told, Work};

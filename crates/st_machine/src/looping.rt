@@ -155,7 +155,7 @@ impl<H: Heap> Machine<H> {
     }
 
     /// The loop that stands innermost gets a value, and makes its next visit.
-    pub(crate) fn visit(&mut self, state: LoopState, value: Value, env: Env) -> Told
+    pub fn visit(&mut self, state: LoopState, value: Value, env: Env) -> Told
         ensures visited { self.new ≡ visited state value env self.old }
         ensures told { result ≡ Told.Nothing }
     {

@@ -19,16 +19,16 @@ use std::marker::Model;
 /// A run of a program. Contracts see its parts.
 #[derive(Drop)]
 pub struct Machine<H: Heap> {
-    pub(crate) loaded: Loaded,
-    pub(crate) contexts: Contexts,
-    pub(crate) heap: H,
-    pub(crate) variables: Vec<Value>,
-    pub(crate) passed: Passed,
-    pub(crate) mode: Mode,
-    pub(crate) steps: u64,
-    pub(crate) deepest: u32,
-    pub(crate) initializers: usize,
-    pub(crate) instructions: u64,
+    pub loaded: Loaded,
+    pub contexts: Contexts,
+    pub heap: H,
+    pub variables: Vec<Value>,
+    pub passed: Passed,
+    pub mode: Mode,
+    pub steps: u64,
+    pub deepest: u32,
+    pub initializers: usize,
+    pub instructions: u64,
 }
 
 impl<H: Heap> Model for Machine<H> {
@@ -102,7 +102,7 @@ impl<H: Heap> Machine<H> {
     }
 
     /// One more activation, unless as many stand as may. Answers its number.
-    pub(crate) fn stand(&mut self, kept: Activation, env: Env) -> Option<u64>
+    pub fn stand(&mut self, kept: Activation, env: Env) -> Option<u64>
         ensures stood { self.new ≡ stood kept env self.old }
         ensures number { result ≡ stood_number self.old }
     {
@@ -122,7 +122,7 @@ impl<H: Heap> Machine<H> {
     }
 
     /// One more step, unless the limit is reached. Answers whether it was counted.
-    pub(crate) fn step(&mut self) -> bool
+    pub fn step(&mut self) -> bool
         ensures counted { self.new ≡ stepped self.old }
         ensures answer { result ≡ has_step self.old }
     {
@@ -134,14 +134,14 @@ impl<H: Heap> Machine<H> {
     }
 
     /// This outcome is in hand.
-    pub(crate) fn settle_with(&mut self, outcome: Outcome)
+    pub fn settle_with(&mut self, outcome: Outcome)
         ensures { self.new ≡ settling outcome self.old }
     {
         self.mode = Mode::Settle(outcome);
     }
 
     /// The innermost activation is dropped, with this outcome in hand.
-    pub(crate) fn leave(&mut self, outcome: Outcome)
+    pub fn leave(&mut self, outcome: Outcome)
         ensures { self.new ≡ left_with outcome self.old }
     {
         self.contexts.pop();

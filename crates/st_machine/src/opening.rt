@@ -103,7 +103,7 @@ impl<H: Heap> Machine<H> {
     }
 
     /// A new body over what stands.
-    pub(crate) fn open_body(&mut self, opening: Opening)
+    pub fn open_body(&mut self, opening: Opening)
         ensures { self.new ≡ opened opening self.old }
     {
         let frame = opening.frame(self.contexts.next_number());
@@ -114,7 +114,7 @@ impl<H: Heap> Machine<H> {
     }
 
     /// A block is activated, which costs a step.
-    pub(crate) fn activate(&mut self, closure: Closure, env: Env)
+    pub fn activate(&mut self, closure: Closure, env: Env)
         ensures { self.new ≡ activated closure env self.old }
     {
         if self.step() {
@@ -125,7 +125,7 @@ impl<H: Heap> Machine<H> {
     }
 
     /// A method is activated.
-    pub(crate) fn enter(&mut self, code: u32, receiver: Value, env: Env)
+    pub fn enter(&mut self, code: u32, receiver: Value, env: Env)
         ensures { self.new ≡ entered code receiver env self.old }
     {
         let class = self.loaded.class(code);
@@ -140,7 +140,7 @@ impl<H: Heap> Machine<H> {
     }
 
     /// What a value keeps that is a block.
-    pub(crate) fn closure(&self, receiver: Value) -> Option<Closure>
+    pub fn closure(&self, receiver: Value) -> Option<Closure>
         ensures { result ≡ closure_in receiver self.now }
     {
         match receiver {
@@ -150,7 +150,7 @@ impl<H: Heap> Machine<H> {
     }
 
     /// The closure, where it takes as many values as are passed.
-    pub(crate) fn fit(&self, closure: Option<Closure>) -> Option<Closure>
+    pub fn fit(&self, closure: Option<Closure>) -> Option<Closure>
         ensures { result ≡ fitting closure self.now }
     {
         match closure {
@@ -166,7 +166,7 @@ impl<H: Heap> Machine<H> {
     }
 
     /// A block that takes as many values is activated, and anything else gets a message.
-    pub(crate) fn apply(&mut self, receiver: Value, env: Env)
+    pub fn apply(&mut self, receiver: Value, env: Env)
         ensures { self.new ≡ applied receiver env self.old }
     {
         match self.fit(self.closure(receiver)) {

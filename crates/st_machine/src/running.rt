@@ -54,8 +54,8 @@ fn tell<W: Watch>(watch: &mut W, told: Told) -> Result<(), Failed>
     }
 }
 
-// Whether one more small step is made, with so many instructions left.
-fn goes_on(mode: Mode, left: u64) -> bool
+/// Whether one more small step is made, with so many instructions left.
+pub fn goes_on(mode: Mode, left: u64) -> bool
     ensures { result ≡ goes_on mode left }
 {
     match mode {
@@ -65,8 +65,8 @@ fn goes_on(mode: Mode, left: u64) -> bool
     }
 }
 
-// How many instructions are left behind a small step.
-fn left_after(mode: Mode, left: u64) -> u64
+/// How many instructions are left behind a small step.
+pub fn left_after(mode: Mode, left: u64) -> u64
     ensures { result ≡ left_after mode left }
 {
     match mode {
@@ -76,8 +76,12 @@ fn left_after(mode: Mode, left: u64) -> u64
 }
 
 impl<H: Heap> Machine<H> {
-    // A small step: what it writes goes to the sink, and the watcher is told its events.
-    fn small_step<K: Sink, W: Watch>(&mut self, out: &mut K, watch: &mut W) -> Result<(), Failed>
+    /// A small step: what it writes goes to the sink, and the watcher is told its events.
+    pub fn small_step<K: Sink, W: Watch>(
+        &mut self,
+        out: &mut K,
+        watch: &mut W,
+    ) -> Result<(), Failed>
         requires { W.broken watch.old ≡ None }
         ensures stepped { self.new ≡ advanced self.old }
         ensures ran { Ran (advance_written self.old) (listed (advance_told self.old)) (sink_seen (K.written out.old) (K.faults out.old)) (sink_seen (K.written out.new) (K.faults out.new)) (watch_seen (W.seen watch.old) (W.broken watch.old) (W.faults watch.old)) (watch_seen (W.seen watch.new) (W.broken watch.new) (W.faults watch.new)) result }
@@ -112,8 +116,8 @@ impl<H: Heap> Machine<H> {
         Ok(())
     }
 
-    // How far the run has come, where nothing failed.
-    fn progress(&self) -> Progress
+    /// How far the run has come, where nothing failed.
+    pub fn progress(&self) -> Progress
         ensures { result ≡ progress_of self.now.mode }
     {
         match self.mode {

@@ -56,6 +56,3 @@ pub use selectors::selector_message;
 pub use spelling::{arity_of, name_of};
 pub use table::row_of;
 pub use transcripts::transcript_message;
-
-#[cfg(test)]
-mod tests;

@@ -12,6 +12,3 @@ mod unary;
 
 pub use dispatch::{is_proper, number_message};
 pub use message::{Number, NumberAnswer, NumberArgument, NumberMessage};
-
-#[cfg(test)]
-mod tests;

@@ -16,8 +16,6 @@ mod read;
 mod scan;
 mod scan_state;
 mod stop;
-#[cfg(test)]
-mod tests;
 mod trees;
 
 pub use parse::{body, method};

@@ -12,6 +12,3 @@ mod top;
 pub use finish::report_want_of_memory;
 pub use law::each_command_has_one_outcome;
 pub use top::stx;
-
-#[cfg(test)]
-mod tests;

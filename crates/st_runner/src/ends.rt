@@ -10,6 +10,7 @@ ghost use Rattle.st_runner.specs.RunToEnd.{EndsAs, StopsAs};
 use object_heap::Heap;
 use st_base::{Failed, Sink};
 use st_machine::{Ending, Machine, Progress};
+use st_sprint::go;
 
 /// Runs a machine that was opened to the end of its run, which is the run of the program by the
 /// rules: with its ending, its Transcript, its counts and its objects. What the run writes to the
@@ -23,7 +24,7 @@ pub fn run_to_end<H: Heap, K: Sink>(machine: &mut Machine<H>, out: &mut K) -> Re
     ensures cause { OnErr result (Rose (K.faults out.old) (K.faults out.new)) }
 {
     loop {
-        match machine.go(u64::MAX, out) {
+        match go(machine, u64::MAX, out) {
             Progress::Ended(ending) => return Ok(ending),
             Progress::WriteFault => return Err(Failed),
             Progress::Running => {}

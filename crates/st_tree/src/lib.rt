@@ -5,7 +5,5 @@ mod copy;
 mod copy_units;
 pub mod headers;
 pub mod law;
-#[cfg(test)]
-mod tests;
 pub mod tree;
 pub mod units;

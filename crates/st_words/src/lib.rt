@@ -3,7 +3,5 @@
 
 mod args;
 mod command;
-#[cfg(test)]
-mod tests;
 
 pub use command::{Command, Task, command_of};

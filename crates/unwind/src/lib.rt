@@ -2,8 +2,6 @@
 #![tactic(auto)]
 
 pub mod law;
-#[cfg(test)]
-mod tests;
 mod unwound;
 
 pub use unwound::{Unwound, unwind_to};

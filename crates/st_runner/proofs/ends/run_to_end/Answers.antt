@@ -6,10 +6,10 @@ use Rattle.st_runner.proofs.ends.run_to_end.Goals as goal
 pub returns-in-Ended-clause-ends : goal.returns-in-Ended-clause-ends
 returns-in-Ended-clause-ends g c =
     ends_as c.args.machine.now c.loop-ending.machine (g.K.Sink.written c.args.out.now) (g.K.Sink.written c.loop-ending.out) (g.K.Sink.faults c.args.out.now) (g.K.Sink.faults c.loop-ending.out) c.requires c.loop-ending.invariant
-    ends_so c.go.new.self c.in-Ended.ending (g.K.Sink.written c.go.new.out) c.in-Ended.ensures.gone c.in-Ended.ensures.progress c.in-Ended.ensures.written
+    ends_so c.go.new.machine c.in-Ended.ending (g.K.Sink.written c.go.new.out) c.in-Ended.ensures.gone c.in-Ended.ensures.progress c.in-Ended.ensures.written
 
 pub returns-in-Ended-clause-mode : goal.returns-in-Ended-clause-mode
-returns-in-Ended-clause-mode g c = ended_is c.go.new.self.mode c.in-Ended.ending c.in-Ended.ensures.progress
+returns-in-Ended-clause-mode g c = ended_is c.go.new.machine.mode c.in-Ended.ending c.in-Ended.ensures.progress
 
 pub returns-in-Ended-clause-kept : goal.returns-in-Ended-clause-kept
 returns-in-Ended-clause-kept g c =
@@ -29,9 +29,9 @@ returns-in-WriteFault-clause-cause g c =
 pub loop-ending-smaller : goal.loop-ending-smaller
 loop-ending-smaller g c =
     falls c.args.machine.now c.loop-ending.machine (g.K.Sink.written c.args.out.now) (g.K.Sink.written c.loop-ending.out) (g.K.Sink.faults c.args.out.now) (g.K.Sink.faults c.loop-ending.out) c.requires c.loop-ending.invariant
-    c.go.new.self c.in-Running.ensures.gone
+    c.go.new.machine c.in-Running.ensures.gone
 
 pub loop-ending-preserved : goal.loop-ending-preserved
 loop-ending-preserved g c =
     goes_on c.args.machine.now c.loop-ending.machine (g.K.Sink.written c.args.out.now) (g.K.Sink.written c.loop-ending.out) (g.K.Sink.faults c.args.out.now) (g.K.Sink.faults c.loop-ending.out) c.requires c.loop-ending.invariant
-    c.go.new.self (g.K.Sink.written c.go.new.out) (g.K.Sink.faults c.go.new.out) c.in-Running.ensures.gone c.in-Running.ensures.progress c.in-Running.ensures.written c.in-Running.ensures.kept
+    c.go.new.machine (g.K.Sink.written c.go.new.out) (g.K.Sink.faults c.go.new.out) c.in-Running.ensures.gone c.in-Running.ensures.progress c.in-Running.ensures.written c.in-Running.ensures.kept
