@@ -13,6 +13,8 @@ TOP = os.path.dirname(os.path.dirname(os.path.abspath(__file__)))
 SECONDS = "STX_SECONDS"
 # how many cases are waited for at a time, for each processor
 AHEAD = 4
+# the seconds after which a run is killed
+LONGEST = 60
 
 
 def options_of(count, text):
@@ -44,7 +46,9 @@ def program():
 
 
 def answer(words, data, cuts=()):
-    """The status, output and report of the program for an input that is written in the pieces that the cuts make."""
+    """The status, output and report of the program for an input that is written in the pieces that the cuts make.
+
+    Where it hasn't ended after a minute it is killed, and the report says so."""
     with subprocess.Popen(words, stdin=subprocess.PIPE, stdout=subprocess.PIPE, stderr=subprocess.PIPE) as run:
         try:
             last = 0
@@ -54,7 +58,12 @@ def answer(words, data, cuts=()):
                 last = cut
         except BrokenPipeError:
             last = len(data)
-        out, report = run.communicate(data[last:], timeout=60)
+        try:
+            out, report = run.communicate(data[last:], timeout=LONGEST)
+        except subprocess.TimeoutExpired:
+            run.kill()
+            out, report = run.communicate()
+            report += b"it hadn't ended after %d seconds" % LONGEST
     return run.returncode, out, report
 
 

@@ -91,5 +91,4 @@ def checkout() -> Iterator[Checkout]:
             made.write(name, text)
         made.write("../bin/rt", RT)
         made.write("../python/python3", f'#!/bin/sh\nexec {shlex.quote(sys.executable)} "$@"\n')
-        subprocess.run(["git", "init", "-q", top], check=True, stdout=subprocess.DEVNULL)
         yield made
