@@ -9,7 +9,7 @@ from collections.abc import Callable
 from typing import Any, BinaryIO
 
 from interchange.chunks import chunks
-from interchange.elements import INITIALIZERS, UnitKind
+from interchange.elements import UnitKind
 from serving import pages, ways
 from serving.buffers import Buffer
 from serving.checking import Program, Refusal
@@ -107,6 +107,7 @@ class Session:
             "textDocument/codeLens": self.lenses,
             "workspace/symbol": self.symbols,
             "workspace/executeCommand": self.execute,
+            "stx/text": lambda params: self.server.buffer(params).text,
         }
 
     def run(self) -> int:
