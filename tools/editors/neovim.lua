@@ -1,7 +1,7 @@
 -- Neovim 0.7 and later: the language server for Smalltalk interchange files.
 -- Put the folder of this checkout into `stx_folder`, and load this file from init.lua:
 --   dofile("/path/to/checkout/tools/editors/neovim.lua")
--- Key maps below hold in buffers of interchange files alone.
+-- `vim.g.stx_server` may be another command, as a list of words. The key maps below hold in buffers of interchange files alone.
 local here = debug.getinfo(1, "S").source:sub(2)
 local stx_folder = vim.g.stx_folder or vim.fn.fnamemodify(here, ":p:h:h:h")
 
@@ -26,7 +26,7 @@ local function started(event)
   vim.bo[event.buf].commentstring = '"%s"'
   local client = vim.lsp.start_client({
     name = "stx",
-    cmd = { stx_folder .. "/tools/language-server" },
+    cmd = vim.g.stx_server or { stx_folder .. "/tools/language-server" },
     root_dir = vim.fn.fnamemodify(event.file, ":p:h"),
     on_attach = function(_, buffer) mapped(buffer) end,
   })

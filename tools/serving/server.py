@@ -1,6 +1,5 @@
 """The server's loop: which message is answered by what, the state of the connection, and the open files."""
 import sys
-import traceback
 from typing import Any, BinaryIO, Callable
 
 from serving.buffers import Buffer
@@ -22,6 +21,13 @@ class Refused(Exception):
     def __init__(self, message: str, code: int = REQUEST_FAILED):
         super().__init__(message)
         self.code = code
+
+
+def logged(method: str, fault: Exception) -> str:
+    """What went wrong with a message, in a line that is also written to the server's log."""
+    text = "%s: %r" % (method, fault)
+    print("language-server: " + text, file=sys.stderr)
+    return text
 
 
 class Server:
@@ -99,19 +105,17 @@ class Server:
         except Refused as fault:
             return {"error": {"code": fault.code, "message": str(fault)}}
         except (KeyError, TypeError, ValueError, AttributeError, IndexError) as fault:
-            traceback.print_exc(file=sys.stderr)
-            return {"error": {"code": INVALID_PARAMS, "message": "%s: %r" % (method, fault)}}
+            return {"error": {"code": INVALID_PARAMS, "message": logged(method, fault)}}
         except (OSError, RecursionError, MemoryError) as fault:
-            traceback.print_exc(file=sys.stderr)
-            return {"error": {"code": INTERNAL_ERROR, "message": "%s: %r" % (method, fault)}}
+            return {"error": {"code": INTERNAL_ERROR, "message": logged(method, fault)}}
 
     def noticed(self, method: str, params: Params) -> None:
         """Takes a notification; one that it doesn't know, or that makes no sense, is passed over."""
         try:
             if self.is_ready and method in self.notices:
                 self.notices[method](params)
-        except (KeyError, TypeError, ValueError, AttributeError, IndexError, OSError, RecursionError):
-            traceback.print_exc(file=sys.stderr)
+        except (KeyError, TypeError, ValueError, AttributeError, IndexError, OSError, RecursionError) as fault:
+            logged(method, fault)
 
     def take(self, message: dict[str, Any] | Malformed) -> bool:
         """Takes one message, and answers whether there are more to come."""
