@@ -12,7 +12,7 @@ PASSED, FAILED, SKIPPED = "passed", "failed", "skipped"
 LAST = re.compile(r"(?:\S+: )?(\d+) passed, (\d+) failed$")
 SKIP = re.compile(r"\S+: skipped, (.+)$")
 # tools that a machine may lack; for no other reason a check may be skipped
-MAY_LACK = ("STX_ORACLE", "Neovim", "strace")
+MAY_LACK = ("STX_ORACLE", "Neovim", "nvim", "strace")
 
 
 @dataclasses.dataclass(frozen=True)
