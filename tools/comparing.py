@@ -12,7 +12,7 @@ TOP = os.path.dirname(os.path.dirname(os.path.abspath(__file__)))
 # how many seconds a comparison may take new cases, where it is bounded
 SECONDS = "STX_SECONDS"
 # how many cases are waited for at a time, for each processor
-AHEAD = 4
+AHEAD = 2
 # the seconds after which a run is killed
 LONGEST = 60
 
@@ -68,16 +68,15 @@ def answer(words, data, cuts=()):
 
 
 def results(pool, differs, cases):
-    """What each case comes to, in their order. Where there is a bound of time, no case is begun past it."""
-    seconds = os.environ.get(SECONDS)
-    ends = time.monotonic() + float(seconds) if seconds else None
+    """What each case comes to, in their order. Where there is a bound of time, no case but the first is begun past it."""
+    ends = time.monotonic() + float(os.environ.get(SECONDS, "inf"))
     waiting = collections.deque()
     for case in cases:
-        if ends is not None and time.monotonic() > ends:
-            break
         waiting.append(pool.submit(differs, case))
         if len(waiting) >= AHEAD * os.cpu_count():
             yield waiting.popleft().result()
+        if time.monotonic() > ends:
+            break
     while waiting:
         yield waiting.popleft().result()
 

@@ -24,7 +24,8 @@ def difference(top: str, log: str, since: float) -> tuple[str | None, str]:
         if is_built:
             return "this run built a program, but left none", ""
         return None, "nothing was built, since all proofs were kept"
-    what = "the program that this run built" if is_built else "nothing was built, since all proofs were kept; the kept program"
+    kept = "nothing was built, since all proofs were kept; the kept program"
+    what = "the program that this run built" if is_built else kept
     release = os.path.join(top, programs.RELEASE, sources.PROGRAM)
     if not os.path.isfile(release) or sources.content(release) != sources.content(program):
         return f"{what} isn't {release}", ""

@@ -73,12 +73,12 @@ def proved(copy: str, log: str, count: int, words: list[str]) -> str:
 def build(top: str, words: list[str]) -> str:
     """Proves and builds the program of a checkout, and gives where it stands. The words go to `rt ci`."""
     if not shutil.which("rt"):
-        raise NotBuilt("no built program is of these sources, and the toolchain that proves and builds them (rt) isn't there")
+        raise NotBuilt("no built program is of these sources, and the toolchain (rt), which builds one, isn't there")
     built = os.path.join(top, programs.BUILT)
     os.makedirs(built, exist_ok=True)
     with tempfile.TemporaryDirectory(prefix="stx-build-") as copy:
         count = len(copy_sources(top, copy))
-        say(f"proving and building {count} crates; what was proved on this machine before is kept, and the rest takes minutes to an hour")
+        say(f"proving and building {count} crates, where it wasn't done before; from nothing it takes an hour")
         program = proved(copy, os.path.join(built, "log"), count, words)
         record.place(program, record.of(program, sources.checksum(copy)), built)
     if programs.problem(top, programs.BUILT):

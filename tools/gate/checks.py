@@ -36,8 +36,9 @@ def judged(status: int, output: str) -> tuple[str, str]:
     if status != 0:
         return FAILED, f"its status is {status}"
     if skip:
-        known = skip[1].startswith(MAY_LACK)
-        return (SKIPPED, skip[1]) if known else (FAILED, f"it was skipped, but not for a tool that isn't there: {skip[1]}")
+        if skip[1].startswith(MAY_LACK):
+            return SKIPPED, skip[1]
+        return FAILED, f"it was skipped, but not for a tool that isn't there: {skip[1]}"
     if not counts:
         return FAILED, "it doesn't end with a line `N passed, M failed`"
     if counts[2] != "0":

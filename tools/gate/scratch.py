@@ -31,7 +31,10 @@ case "$1" in
         for crate in $(sed -n 's/^\\([a-z]*\\):.*/\\1/p' crates.txt); do echo "rt: $crate $how"; done
         [ -z "$STAND_IN_LEAVES_NONE" ] || { echo '3 passed, 0 failed'; exit 0; }
         mkdir -p crates/stx/out
-        { echo '#!/bin/sh'; echo "# $STAND_IN_MARK"; echo 'echo ran "$@"'; sed 's/^/# /' crates/low/src/* crates/stx/src/*; } >crates/stx/out/stx
+        {
+            echo '#!/bin/sh'; echo "# $STAND_IN_MARK"; echo 'echo ran "$@"'
+            sed 's/^/# /' crates/low/src/* crates/stx/src/*
+        } >crates/stx/out/stx
         chmod +x crates/stx/out/stx
         echo '3 passed, 0 failed'
         ;;
@@ -72,7 +75,7 @@ class Checkout:
         return run.returncode, run.stdout
 
     def path_without_rt(self) -> str:
-        """The folders in which commands are looked for, but those that have the toolchain; Python is there in any case."""
+        """The folders in which commands are looked for, without those that have the toolchain; Python is there."""
         folders = [os.path.join(self.room, "python"), *os.environ["PATH"].split(":")]
         return ":".join(folder for folder in folders if not os.path.exists(os.path.join(folder, "rt")))
 

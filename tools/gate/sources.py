@@ -43,7 +43,7 @@ def files_of(top: str, crate: str) -> Iterator[str]:
 
 
 def texts(top: str) -> Iterator[tuple[str, bytes]]:
-    """All that the program is built from, each text with its name: HANDLES, the lines of its crates, and their files."""
+    """All that the program is built from, each text with its name: HANDLES, its crates' lines and their files."""
     handles = os.path.join(top, "HANDLES")
     yield "HANDLES", content(handles) if os.path.exists(handles) else b""
     crates = crates_of(top)

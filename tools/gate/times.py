@@ -96,5 +96,6 @@ def table(log: list[stamps.Stamp], crates: dict[str, str]) -> str:
 
 def told(total: float, by_crates: float, whole: float) -> str:
     """The line behind a table."""
-    rest = f", {minutes(max(total - by_crates, 0.0))} of them for `rt` itself, linking, and running programs and tests" if total else ""
-    return f"\n{minutes(total or by_crates)} processor minutes{rest}, and {minutes(whole)} minutes by the clock.\n"
+    beside = f", {minutes(max(total - by_crates, 0.0))} of them for `rt`, linking, and running programs and tests"
+    taken = f"{minutes(total or by_crates)} processor minutes{beside if total else ''}"
+    return f"\n{taken}, and {minutes(whole)} minutes by the clock.\n"
