@@ -29,19 +29,29 @@ class Times:
 KINDS = (stamps.PROOF, stamps.TESTS, stamps.EDITS)
 
 
-def times_of(log: list[stamps.Stamp], crates: Mapping[str, str]) -> dict[str, Times]:
-    """The times of each crate that the log tells of, in the order in which their proofs end."""
+def ends_of(log: list[stamps.Stamp]) -> dict[str, Times]:
+    """Of each crate that the log says to be proved or kept when it says so."""
     found: dict[str, Times] = {}
     for stamp in log:
         proved, kept = IS_PROVED.match(stamp.text), IS_KEPT.match(stamp.text)
         if stamp.kind == stamps.SAID and (proved or kept):
-            name = (proved or kept)[1]
-            found[name] = Times(ended=stamp.seconds, is_kept=bool(kept))
+            found[(proved or kept)[1]] = Times(ended=stamp.seconds, is_kept=bool(kept))
+    return found
+
+
+def add_works(found: dict[str, Times], log: list[stamps.Stamp]) -> None:
+    """Adds what the prover's processes took, and when those of proofs began."""
     for work in stamps.works(log):
         times = found.setdefault(work.crate, Times(ended=work.ended))
         times.processor[work.kind] += work.processor
         if work.kind == stamps.PROOF:
-            times.began = min(work.began, work.began if times.began is None else times.began)
+            times.began = work.began if times.began is None else min(work.began, times.began)
+
+
+def times_of(log: list[stamps.Stamp], crates: Mapping[str, str]) -> dict[str, Times]:
+    """The times of each crate that the log tells of, in the order in which their proofs end."""
+    found = ends_of(log)
+    add_works(found, log)
     for name, times in found.items():
         if times.began is None and not times.is_kept:
             times.began = begin_by_others(name, found, crates)
@@ -59,6 +69,7 @@ def critical_path(found: Mapping[str, Times], crates: dict[str, str]) -> list[st
     chains: dict[str, tuple[float, list[str]]] = {}
 
     def chain(name: str) -> tuple[float, list[str]]:
+        """The longest chain up to a crate."""
         if name not in chains:
             below = [chain(it) for it in sources.stands_on(crates, name) if it in crates]
             seconds, names = max(below, default=(0.0, []))
