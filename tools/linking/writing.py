@@ -6,7 +6,7 @@ from dataclasses import dataclass
 from interchange.bodies import Fault
 from interchange.chunks import doubled
 from interchange.elements import METHODS, File, Unit, UnitKind, read
-from interchange.places import Lines
+from interchange.places import WHITE, Lines
 
 from .choosing import Choice, program_of
 from .library import Entry, Library, classes_above
@@ -31,12 +31,21 @@ class Source:
 
 @dataclass(slots=True)
 class Linked:
-    """The file, what was added of the library, the test classes that got their selectors, and warnings."""
+    """The file, what was added of the library, the test classes that got their selectors, and warnings. `origins` are
+    the offsets at which the text of each file begins: in the file that was made, and in its own."""
 
     text: bytes
     added: list[Entry]
     tests: list[bytes]
     warnings: list[str]
+    origins: list[tuple[int, int, Source]]
+
+    def told(self, offset: int, text: str) -> str | None:
+        """A line about a place of the file that was made, by the file that it comes from; None for the library's."""
+        for begin, own, one in self.origins:
+            if begin <= offset <= begin + len(one.data) - own:
+                return one.told(own + offset - begin, text)
+        return None
 
 
 def source(name: str, data: bytes) -> Source:
@@ -65,16 +74,22 @@ def link(sources: list[Source], library: Library) -> Linked:
     choice.take_for(units)
     added = choice.entries()
     tests = _tests(units, choice) if _TEST_CASE in choice.classes else {}
-    pieces = [_version(ordered[0])]
-    if added:
-        files = sorted({entry.file for entry in added})
-        pieces.append(b'"Of the library: %s."!' % ", ".join(files).encode())
-        pieces.extend(entry.text for entry in added)
-        pieces.append(b'"The program."!')
-    pieces.extend(_behind_version(one) for one in ordered)
-    pieces.extend(_selectors_method(name, selectors) for name, selectors in tests.items())
-    text = b"\n".join(piece for piece in pieces if piece) + b"\n"
-    return Linked(text, added, list(tests), _warnings(ordered, choice))
+    text = b"\n".join([_version(ordered[0]), *_of_library(added)]) + b"\n"
+    origins = []
+    for one in ordered:
+        begin, end = _behind_version(one)
+        origins.append((len(text), begin, one))
+        text += one.data[begin:end] + (b"\n" if end > begin else b"")
+    text += b"".join(_selectors_method(name, selectors) for name, selectors in tests.items())
+    return Linked(text, added, list(tests), _warnings(ordered, choice), origins)
+
+
+def _of_library(added: list[Entry]) -> list[bytes]:
+    """What is added, between comments that say so."""
+    if not added:
+        return []
+    files = ", ".join(sorted({entry.file for entry in added}))
+    return [b'"Of the library: %s."!' % files.encode(), *(entry.text for entry in added), b'"The program."!']
 
 
 def _in_order(sources: list[Source]) -> list[Source]:
@@ -102,9 +117,12 @@ def _version(one: Source) -> bytes:
     return one.data[first.header.start : first.header.end + 1].strip()
 
 
-def _behind_version(one: Source) -> bytes:
-    """The bytes of a file behind its version element, annotations of that one left out."""
-    return one.data[one.file.units[0].last.end + 1 :].strip(b"\t\n\f\r ")
+def _behind_version(one: Source) -> tuple[int, int]:
+    """From where to where a file has something behind its version element and the annotations of that one."""
+    begin = one.file.units[0].last.end + 1
+    rest = one.data[begin:]
+    begin += len(rest) - len(rest.lstrip(WHITE))
+    return begin, begin + len(rest.strip(WHITE))
 
 
 def _tests(units: list[Unit], choice: Choice) -> dict[bytes, list[bytes]]:
@@ -125,7 +143,7 @@ def _tests(units: list[Unit], choice: Choice) -> dict[bytes, list[bytes]]:
 def _selectors_method(name: bytes, selectors: list[bytes]) -> bytes:
     """The method by which a test class names its tests."""
     listed = b" ".join(b"#" + selector for selector in selectors)
-    return b"%s classMethod!\ntestSelectors\n\t^#(%s)! !" % (name, doubled(listed))
+    return b"%s classMethod!\ntestSelectors\n\t^#(%s)! !\n" % (name, doubled(listed))
 
 
 def _warnings(sources: list[Source], choice: Choice) -> list[str]:
