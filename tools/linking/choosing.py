@@ -22,6 +22,8 @@ from .needs import Needs, needs_of
 
 _DECLARING = frozenset((UnitKind.CLASS, UnitKind.GLOBAL_VARIABLE, UnitKind.GLOBAL_CONSTANT, UnitKind.POOL))
 _BUILT_IN = frozenset(selector for _, _, selector in built_in_messages())
+_SENT_BY_LOOPS = (b"value:", b"value:value:")
+"""What built-in messages send to an object in the place of a block, though no text sends it."""
 _MADE_BY = {b"/": b"Fraction", b"->": b"Association"}
 """Classes whose objects are made by a message, without a name."""
 
@@ -70,7 +72,7 @@ class Choice:
             self.superclasses.setdefault(name, units[0].unit.superclass)
         self.classes: dict[bytes, list[Entry]] = {}
         self.methods: dict[Key, Entry] = {}
-        self.sent: set[bytes] = set()
+        self.sent: set[bytes] = set(_SENT_BY_LOOPS)
         self.seen: set[bytes] = set()
 
     def take_for(self, units: list[Unit]) -> None:
