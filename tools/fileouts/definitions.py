@@ -6,8 +6,8 @@ from dataclasses import dataclass
 from interchange.bodies import Brace, Expression, Literal, Message, Operand, Paren, Statement, Variable
 from interchange.elements import is_name
 
-from .program import ClassItem, Declares, NameItem, Program
-from .sources import Origin, Spot, shown
+from .program import ClassItem, CodeItem, Declares, NameItem, Program, Target
+from .sources import Origin, Report, Spot, shown
 
 INDEXED = {
     b"subclass:": b"none",
@@ -30,6 +30,13 @@ _DROPPED_OF_CLASS = frozenset((b"guid:", b"reorganize", b"organization", b"sourc
 _DROPPED_RECEIVERS = frozenset((b"SystemOrganization", b"SystemOrganizer", b"PackageLoader", b"FileStream",
                                 b"ChangeSet", b"Undeclared", b"SmalltalkImage", b"Metacello", b"Gofer",
                                 b"MetacelloPharoPlatform", b"Installer", b"Feature", b"Parcel", b"RPackageOrganizer"))
+
+
+def is_good_name(report: Report, name: bytes, spot: Spot) -> bool:
+    """Whether a variable may have this name; else it is refused."""
+    if not is_name(name):
+        report.refuse(spot, "%s is no name of a variable here" % shown(name))
+    return is_name(name)
 
 
 @dataclass
@@ -69,6 +76,8 @@ class Definitions:
         if isinstance(primary, Paren) and not primary.expression.targets:
             inner = self._taken(primary.expression) if self._defines(primary.expression) else None
             return self._remarks(Speaks(inner, False, expression.messages)) if inner else None
+        if self._pool(expression):
+            return b""
         speaks = self._speaks(expression)
         if speaks is None or not speaks.messages:
             return None
@@ -77,6 +86,38 @@ class Definitions:
             return b""
         defined = self._definition(expression, speaks)
         return self._remarks(speaks) if defined is None else defined
+
+    def _pool(self, expression: Expression) -> bool:
+        """`Smalltalk at: #P put: Dictionary new` and `P at: 'X' put: 1`, where some class lists the pool P."""
+        messages = expression.messages
+        if len(messages) != 1 or messages[0].selector != b"at:put:":
+            return False
+        key, value = messages[0].arguments
+        name = self._literal_name(key)
+        pool = self._pool_of(expression.operand)
+        if name is None or pool is None:
+            return False
+        if pool == b"Smalltalk":
+            self.program.add(NameItem(Declares.POOL, name, self._spot(key)))
+        else:
+            self.program.add(NameItem(Declares.VARIABLE, name, self._spot(key), pool))
+            code = self.origin.part(value.start, value.end)
+            self.program.add(CodeItem(Target.POOL_NAME, [(b"", code)], code.spot(), name, pool))
+        return True
+
+    def _pool_of(self, operand: Operand) -> bytes | None:
+        """The pool that is the receiver, or Smalltalk where a pool is made."""
+        primary, name = operand.primary, None
+        if isinstance(primary, Paren):
+            inner = primary.expression.operand
+            if isinstance(inner.primary, Variable) and inner.primary.text == b"Smalltalk" and inner.messages:
+                name = self._literal_name(inner.messages[0].arguments[0]) if inner.messages[0].arguments else None
+        elif isinstance(primary, Variable):
+            name = primary.text.rpartition(b".")[2]
+        if name == b"Smalltalk":
+            made = self._literal_name(operand.messages[0].arguments[0])
+            return name if made in self.program.pool_names else None
+        return name if name in self.program.pool_names else None
 
     def _drop(self, speaks: Speaks) -> None:
         """What loads or files elsewhere has no effect here."""
@@ -204,9 +245,7 @@ class Definitions:
         setattr(item, which, [name for name, spot in names if self.is_good(name, spot)])
 
     def is_good(self, name: bytes, spot: Spot) -> bool:
-        if not is_name(name):
-            self.program.report.refuse(spot, "%s is no name of a variable here" % shown(name))
-        return is_name(name)
+        return is_good_name(self.program.report, name, spot)
 
     def _visualworks_class(self, message: Message) -> bytes:
         says = {part.text: argument for part, argument in zip(message.parts, message.arguments)}
@@ -234,7 +273,7 @@ class Definitions:
             self.program.add(NameItem(Declares.VARIABLE, name, self._spot(message)))
             self.program.report.refuse(self._spot(message), "a variable of a namespace isn't here")
             return b""
-        self.program.remark(speaks.name, self._spot(message), lambda item: item.class_variables.append(name))
+        self.program.remark(speaks.name, self._spot(message), lambda item: item.class_variables.append(name), True)
         if source:
             self.program.initialize_class(speaks.name, name, source)
         return speaks.name
@@ -291,14 +330,14 @@ class Definitions:
             added = self._literal_name(value) or b""
             which = "instance" if b"Inst" in key else "class_variables"
             if self.is_good(added, spot):
-                self.program.remark(name, spot, lambda item: getattr(item, which).append(added))
+                self.program.remark(name, spot, lambda item: getattr(item, which).append(added), True)
         elif key in _LISTS or key in _KEPT or key == b"comment:":
             self.program.remark(name, spot, lambda item: self._say(item, key, value, spot))
 
     def _say_of_class_side(self, name: bytes, key: bytes, value: Operand, spot: Spot) -> None:
         if key in (b"instanceVariableNames:", b"slots:"):
             names = self._names(value, key)
-            self.program.remark(name, spot, lambda item: self.set_names(item, "class_instance", names))
+            self.program.remark(name, spot, lambda item: self.set_names(item, "class_instance", names), True)
         elif key in (b"uses:", b"traits:") and not self._is_empty(value):
             self.program.report.refuse(spot, "traits aren't here")
 

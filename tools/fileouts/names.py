@@ -9,6 +9,7 @@ from interchange import builtins
 
 from .library import Library
 from .program import ClassItem, Declares, NameItem, Program
+from .sources import Spot
 
 RENAMED = {
     b"BlockClosure": b"Block", b"BlockContext": b"Block", b"CompiledBlock": b"Block",
@@ -43,6 +44,7 @@ class Names:
     classes: dict[bytes, ClassItem] = field(default_factory=dict)
     globals: dict[bytes, Stands] = field(default_factory=dict)
     pools: dict[bytes, dict[bytes, Stands]] = field(default_factory=dict)
+    fresh: dict[bytes, Spot] = field(default_factory=dict)
 
     def gather(self) -> None:
         """Takes the classes, globals and pools of the program."""

@@ -112,10 +112,11 @@ class Program:
 
     report: Report
     items: list[Item] = field(default_factory=list)
-    remarks: list[tuple[bytes, Spot, Remark]] = field(default_factory=list)
+    remarks: list[tuple[bytes, Spot, Remark, bool]] = field(default_factory=list)
     removals: list[tuple[bytes, bool, bytes, Spot]] = field(default_factory=list)
     pool_names: set[bytes] = field(default_factory=set)
     version: bytes = b""
+    version_annotations: list[tuple[bytes, bytes]] = field(default_factory=list)
     sources: list[Source] = field(default_factory=list)
     commented: set[int] = field(default_factory=set)
 
@@ -132,9 +133,9 @@ class Program:
     def code(self) -> list[CodeItem]:
         return [item for item in self.items if isinstance(item, CodeItem)]
 
-    def remark(self, class_name: bytes, spot: Spot, remark: Remark) -> None:
-        """What is said later of a class that stands in some file, or should."""
-        self.remarks.append((class_name, spot, remark))
+    def remark(self, class_name: bytes, spot: Spot, remark: Remark, brings_variables: bool = False) -> None:
+        """What is said of a class that stands in some file, or should; it is heard once all files are read."""
+        self.remarks.append((class_name, spot, remark, brings_variables))
 
     def comment(self, source: Source, text: bytes, spot: Spot) -> None:
         """Keeps the first comment of a file."""
