@@ -45,6 +45,7 @@ class Coder:
 
     names: Names
     report: Report
+    shared: dict[int, set[bytes]] = field(default_factory=dict)
     sent: dict[bytes, Spot] = field(default_factory=dict)
     wanted: dict[bytes, Spot] = field(default_factory=dict)
 

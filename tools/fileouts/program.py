@@ -5,6 +5,8 @@ from collections.abc import Callable
 from dataclasses import dataclass, field
 from enum import Enum
 
+from interchange.places import Text
+
 from .sources import Origin, Report, Source, Spot, shown
 
 
@@ -119,6 +121,7 @@ class Program:
     version_annotations: list[tuple[bytes, bytes]] = field(default_factory=list)
     sources: list[Source] = field(default_factory=list)
     commented: set[int] = field(default_factory=set)
+    loaded: set[bytes] = field(default_factory=set)
 
     def add(self, item: Item) -> None:
         self.items.append(item)
@@ -150,6 +153,10 @@ class Program:
                 item.parts.append((variable, origin))
                 return
         self.add(CodeItem(Target.CLASS, [(variable, origin)], origin.spot(), name))
+
+    def made(self, near: Origin, text: bytes) -> Origin:
+        """A text that stands in no file, with the place of one that does."""
+        return Origin(near.source, Text(text, near.text.start))
 
     def run(self, origin: Origin) -> None:
         """Adds code that runs when it is its turn."""
