@@ -132,7 +132,7 @@ class Reader:
         class_name = found[1].rpartition(b".")[2]
         category = self._category(piece, found.end())
         for method in self._record():
-            item = MethodItem(class_name, bool(found[2]), Origin(self.source, method.origin.text.trimmed()))
+            item = MethodItem(class_name, bool(found[2]), method.origin)
             if category:
                 item.annotations.append((b"category", category))
             self.program.add(item)

@@ -26,6 +26,7 @@ FAULTS = {
 }
 ANSWERS_STRING = frozenset((b"printString", b"displayString", b"asString", b"printString:", b","))
 SHOWS = {b"show:": b"displayString", b"display:": b"displayString", b"print:": b"printString"}
+APPLIES = frozenset((b"ifTrue:", b"ifFalse:", b"ifTrue:ifFalse:", b"ifFalse:ifTrue:", b"and:", b"or:"))
 STANDARD_SPACES = frozenset((b"Smalltalk", b"Core", b"Kernel", b"Root", b"SystemExceptions"))
 _PLAIN_INTEGER = re.compile(rb"-?[0-9]+(?:r[0-9A-Z]+)?\Z")
 
@@ -48,6 +49,7 @@ class Coder:
     shared: dict[int, set[bytes]] = field(default_factory=dict)
     sent: dict[bytes, Spot] = field(default_factory=dict)
     wanted: dict[bytes, Spot] = field(default_factory=dict)
+    applies_objects: bool = False
 
     def method(self, item: MethodItem) -> bytes | None:
         """The text of a method, None where it is refused."""
@@ -169,8 +171,10 @@ class Walk:
         for name in parameters:
             self._declare(scope, name, Stands.FIXED)
         self._declarations(body)
+        shared = self._shared()
         for name in body.temporaries:
-            self._declare(scope, name, Stands.ASSIGNABLE)
+            if name.text not in shared:
+                self._declare(scope, name, Stands.ASSIGNABLE)
         self.locals.append(scope)
         for period in body.periods:
             self.edits.replace(period, period + 1, b"")
@@ -191,18 +195,23 @@ class Walk:
 
     def _declarations(self, body: Body) -> None:
         """Puts several declarations of temporaries into one, where the first stands or the body begins."""
-        late = [declared for declared in body.declarations[1:]]
-        if body.declarations and not body.declarations[0].leading:
-            late.insert(0, body.declarations[0])
-        if not late and len(body.declarations) < 2:
+        shared = self._shared()
+        if not body.declarations or (len(body.declarations) == 1 and body.declarations[0].leading
+                                     and not any(name.text in shared for name in body.temporaries)):
             return
-        names = list(dict.fromkeys(name.text for name in body.temporaries))
+        names = list(dict.fromkeys(name.text for name in body.temporaries if name.text not in shared))
         for declared in body.declarations:
             self.edits.replace(declared.start, declared.end, b"")
         first = body.declarations[0]
         place = first.start if first.leading else body.start
-        written = b"| %s |" % b" ".join(names)
+        written = b"| %s |" % b" ".join(names) if names else b""
         self.edits.wrap(place, written if first.leading else written + b"\n", place, b"")
+
+    def _shared(self) -> set[bytes]:
+        """Temporaries of this piece of code that others of the file use: they are global variables."""
+        if self.locals or not self.scope.is_doit:
+            return set()
+        return self.coder.shared.get(self.origin.source.number, set())
 
     def _statements(self, body: Body) -> None:
         returned = False
@@ -237,6 +246,8 @@ class Walk:
 
     def _message(self, message: Message) -> None:
         self.coder.sent.setdefault(message.selector, self.origin.spot(message.start))
+        if message.selector in APPLIES and not all(isinstance(one.primary, Block) for one in message.arguments):
+            self.coder.applies_objects = True
         for argument in message.arguments:
             self._operand(argument, [])
 
@@ -324,7 +335,8 @@ class Walk:
             self._refuse(at, "%s is declared nowhere" % shown(name))
             return
         self.coder.wanted.setdefault(name, self.origin.spot(at))
-        if not self.origin.source.tool.is_gst:
+        shared = self.coder.shared.get(self.origin.source.number, set())
+        if not self.origin.source.tool.is_gst and name not in shared:
             self._warn(at, "%s is declared nowhere, and becomes a global variable" % shown(name), "global", name)
 
     def _smalltalk(self, operand: Operand, alone: bool) -> bool:

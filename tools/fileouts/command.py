@@ -7,11 +7,13 @@ import sys
 from dataclasses import dataclass, field
 from pathlib import Path
 
-from interchange.elements import UnitKind
+from interchange import builtins
+from interchange.tokens import tokens_of
 
 from . import additions, bangs, brackets, checks, filetree, interchange_files, library, tonel
 from .code import Coder
-from .names import Names, Stands
+from .linked import wishes_of, with_library
+from .names import Names
 from .program import Item, MethodItem, Program, Target
 from .sources import Report, Source, Spot, shown
 from .tools import TOOLS, Format, format_of, tool_of
@@ -60,7 +62,12 @@ class Conversion:
         if self.report.refusals:
             return None
         wanted = [*names.fresh, *coder.wanted]
-        return written(self.program, texts, list(dict.fromkeys(wanted)), rows)
+        text = written(self.program, texts, list(dict.fromkeys(wanted)), rows)
+        return self._linked(text, coder) if self.words.link else text
+
+    def _linked(self, text: bytes, coder: Coder) -> bytes:
+        compares = any(selector in coder.sent for selector in (b"=", b"~=", b"assert:equals:", b"includes:"))
+        return with_library(text, wishes_of(self.program, compares, coder.applies_objects))
 
     # files
 
@@ -183,7 +190,6 @@ class Conversion:
 
     def _unanswered(self, coder: Coder, names: Names) -> None:
         """Warns of each selector that is sent and that no class has."""
-        from interchange import builtins
         had = {selector for _, _, selector in builtins.messages()} | names.library.selectors
         had |= {item.selector for item in self.program.methods()}
         for selector, spot in coder.sent.items():
@@ -193,7 +199,6 @@ class Conversion:
 
 def has_code(text: bytes) -> bool:
     """Whether more than comments stands in a text."""
-    from interchange.tokens import tokens_of
     return bool(tokens_of(text).tokens)
 
 

@@ -43,7 +43,9 @@ class MethodItem:
 
     @property
     def spot(self) -> Spot:
-        return self.origin.spot()
+        """Where its text begins, behind white space."""
+        text = self.origin.bytes
+        return self.origin.spot(len(text) - len(text.lstrip()))
 
     def key(self) -> tuple[bytes, bool, bytes]:
         return self.class_name, self.class_side, self.selector
