@@ -8,6 +8,7 @@ from dataclasses import dataclass, field
 from pathlib import Path
 
 from interchange import builtins
+from interchange.bodies import Parser
 from interchange.tokens import tokens_of
 
 from . import additions, bangs, brackets, checks, filetree, interchange_files, library, tonel
@@ -16,13 +17,15 @@ from .linked import wishes_of, with_library
 from .names import Names
 from .program import Item, MethodItem, Program, Target
 from .sources import Report, Source, Spot, shown
-from .tools import TOOLS, Format, format_of, tool_of
+from .tools import TOOLS, Format, tool_of
 from .writing import written
 
 READERS = {Format.TONEL: tonel.read, Format.INTERCHANGE: interchange_files.read, Format.BRACKETS: brackets.read,
            Format.BANGS: bangs.read, Format.SCRIPT: brackets.read}
 REFUSED_FORMATS = {Format.XML: "VisualWorks' XML isn't read: file out as chunks",
                    Format.STEPTALK: "StepTalk's files aren't read"}
+ENDINGS = (".st", ".cs", ".cls", ".sif", ".pac")
+"""The endings of the files that are read in a folder."""
 _POOLS = re.compile(rb"(?:poolDictionaries|sharedPools):\s*'([^']*)'")
 
 
@@ -44,6 +47,8 @@ class Conversion:
     words: Words
     report: Report = field(default_factory=Report)
 
+    loaded: int = 0
+
     def __post_init__(self) -> None:
         self.program = Program(self.report)
 
@@ -51,6 +56,7 @@ class Conversion:
         """The interchange file, None where something is refused."""
         for path in self.words.paths:
             self._path(path)
+        self._loaded()
         names = Names(self.program, library.load())
         checks.settle_classes(self.program, names)
         coder = Coder(names, self.report, checks.shared_names(self.program))
@@ -88,63 +94,54 @@ class Conversion:
             source = Source(str(path), b"", number, TOOLS["pharo"])
             self.report.refuse(Spot(source, 0), "can't be read: %s" % error.strerror)
             return None
-        tool = TOOLS[self.words.tool] if self.words.tool else tool_of(data, format_of(data))
-        source = Source(str(path), data, number, tool)
+        source = Source(str(path), data, number, TOOLS["pharo"])
+        source.tool = TOOLS[self.words.tool] if self.words.tool else tool_of(data, source.format)
         self.program.sources.append(source)
         self.program.pool_names.update(name for found in _POOLS.findall(data) for name in found.split())
         return source
 
     def _folder(self, folder: Path) -> None:
         """A folder: FileTree's folders of classes in it, and all other Smalltalk files."""
-        first = len(self.program.items)
         classes = sorted(path for pattern in ("*.class", "*.extension") for path in folder.rglob(pattern) if path.is_dir())
         if folder.suffix in (".class", ".extension"):
             classes.insert(0, folder)
         for path in classes:
             filetree.read(self.program, path, self._open_filetree)
         others = [path for path in sorted(folder.rglob("*"))
-                  if path.suffix in (".st", ".cs", ".cls", ".sif", ".pac") and path.is_file()
-                  and not any(above in classes for above in path.parents)]
-        tonel_files = 0
-        for path in others:
-            source = self._open(path)
-            if source is not None:
-                tonel_files += format_of(source.data) is Format.TONEL
-                self._file(source, path.name)
-        if classes or tonel_files:
-            self._loaded(first)
+                  if path.suffix in ENDINGS and path.is_file() and not any(above in classes for above in path.parents)]
+        opened = [(path, source) for path in others if (source := self._open(path))]
+        for path, source in sorted(opened, key=lambda row: row[1].format is not Format.TONEL):
+            self._file(source, path.name)
         if not classes and not others:
             source = Source(str(folder), b"", len(self.program.sources), TOOLS["pharo"])
             self.report.refuse(Spot(source, 0), "nothing to convert is in this folder")
 
     def _open_filetree(self, path: Path) -> Source | None:
         source = self._open(path)
-        if source is not None and not self.words.tool:
-            source.tool = TOOLS["pharo"]
+        if source is not None:
+            source.is_package = True
+            source.tool = TOOLS[self.words.tool or "pharo"]
         return source
 
     def _file(self, source: Source, name: str) -> None:
         """Reads a file by its format."""
-        found = format_of(source.data)
-        first = len(self.program.items)
+        found = source.format
+        if found is not Format.TONEL:
+            self._loaded()
         if name.endswith(".pac"):
             self.report.warn(Spot(source, 0), "a package of Dolphin is left out")
         elif found in REFUSED_FORMATS:
             self.report.refuse(Spot(source, 0), REFUSED_FORMATS[found])
         else:
             READERS[found](self.program, source)
-        if found is Format.TONEL:
-            self._loaded(first, single=True)
 
-    def _loaded(self, first: int, single: bool = False) -> None:
+    def _loaded(self) -> None:
         """Loading a package sends `initialize` to each class that has it on its class side, superclasses first."""
-        having = {item.class_name: item for item in self.program.items[first:] if isinstance(item, MethodItem)
-                  and item.class_side and re.match(rb"\s*initialize\s*[\r\n\"\[^|]|\s*initialize\s+\w", item.origin.bytes)}
-        if single and len(self.words.paths) == 1 and self.words.paths[0].is_dir():
-            return
+        having = {item.class_name: item for item in self.program.items[self.loaded :]
+                  if isinstance(item, MethodItem) and is_initialize(item)}
+        self.loaded = len(self.program.items)
         for item in additions.sorted_classes(self.program):
-            if item.name in having and item.name not in self.program.loaded:
-                self.program.loaded.add(item.name)
+            if item.name in having:
                 origin = self.program.made(having[item.name].origin, b"self initialize")
                 self.program.initialize_class(item.name, b"", origin)
 
@@ -195,6 +192,14 @@ class Conversion:
         for selector, spot in coder.sent.items():
             if selector not in had and spot.source.tool.name != "":
                 self.report.warn(spot, "#%s is sent, and no class here has it" % shown(selector))
+
+
+def is_initialize(item: MethodItem) -> bool:
+    """Whether it is a method `initialize` of the class side in a package."""
+    source = item.origin.source
+    if not item.class_side or not source.is_package or b"initialize" not in item.origin.bytes:
+        return False
+    return Parser(item.origin.bytes, source.tool.dialect).method().selector == b"initialize"
 
 
 def has_code(text: bytes) -> bool:

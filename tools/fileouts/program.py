@@ -123,7 +123,6 @@ class Program:
     version_annotations: list[tuple[bytes, bytes]] = field(default_factory=list)
     sources: list[Source] = field(default_factory=list)
     commented: set[int] = field(default_factory=set)
-    loaded: set[bytes] = field(default_factory=set)
 
     def add(self, item: Item) -> None:
         self.items.append(item)

@@ -6,18 +6,25 @@ from functools import cached_property
 
 from interchange.places import Lines, Text
 
-from .tools import Tool
+from .tools import Format, Tool, format_of
 
 
 @dataclass(eq=False)
 class Source:
-    """A file: the name that reports give it, its bytes, its place among the files, and the tool that wrote it."""
+    """A file: the name that reports give it, its bytes, its place among the files, and the tool that wrote it.
+
+    `is_package` is whether it is of a package that is loaded as a whole, which initializes classes.
+    """
 
     name: str
     data: bytes
     number: int
     tool: Tool
-    edition: bytes = b""
+    is_package: bool = False
+
+    @cached_property
+    def format(self) -> Format:
+        return format_of(self.data)
 
     @cached_property
     def lines(self) -> Lines:

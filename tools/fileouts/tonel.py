@@ -17,6 +17,7 @@ _LISTS = {b"instVars": "instance", b"classVars": "class_variables", b"pools": "p
 
 def read(program: Program, source: Source) -> None:
     """Reads a file."""
+    source.is_package = True
     Reader(program, source).read()
 
 
