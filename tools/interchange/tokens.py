@@ -53,6 +53,7 @@ class Dialect:
     foreign: bool = False
     underscore_assigns: bool = False
     dotted_names: bool = False
+    digit_groups: bool = False
     bang_ends: bool = False
 
 
@@ -89,7 +90,8 @@ _KEYWORDS = re.compile(rb"(?:[A-Za-z_][A-Za-z0-9_]*:(?!=))+")
 _OPERATORS = re.compile(rb"[!%&*+,/<>=?@\\~|\-]+")
 _RADIX = re.compile(rb"([0-9]+)r([0-9A-Z]*)")
 _DIGITS = re.compile(rb"[0-9]+")
-_FOREIGN_INTEGER = re.compile(rb"([0-9]+(?:_[0-9]+)*)(?:r(-?)([0-9A-Z]+(?:_[0-9A-Z]+)*))?")
+_FOREIGN_INTEGER = re.compile(rb"([0-9]+)(?:r(-?)([0-9A-Z]+))?")
+_GROUPED_INTEGER = re.compile(rb"([0-9]+(?:_[0-9]+)*)(?:r(-?)([0-9A-Z]+(?:_[0-9A-Z]+)*))?")
 _FRACTION = re.compile(rb"\.[0-9][0-9A-Z]*")
 _EXPONENT = re.compile(rb"[edq](-?)([0-9]+)")
 _SCALE = re.compile(rb"s[0-9]*(?![A-Za-z0-9_])")
@@ -248,7 +250,7 @@ class _Reader:
 
     def foreign_number(self, at: int) -> Token:
         """A number as other Smalltalks write it. An INTEGER's value may be negative (16r-1F) or have an exponent."""
-        found = _FOREIGN_INTEGER.match(self.text, at)
+        found = (_GROUPED_INTEGER if self.dialect.digit_groups else _FOREIGN_INTEGER).match(self.text, at)
         end = found.end()
         radix = 10
         figures = found[1]

@@ -3,14 +3,15 @@ from __future__ import annotations
 
 import subprocess
 from collections.abc import Iterator
+from functools import cache
 from pathlib import Path
 
 from interchange.elements import METHODS, File, UnitKind, read
-from linking.library import CHOSEN, FOLDER, library
+from linking.library import CHOSEN, FOLDER, library, wishes_of
 from linking.needs import needs_of
 from linking.writing import link, refusals, source
 
-from . import Check, equal
+from . import Check
 
 _DRIVEN = frozenset((b"handles:", b"setUp", b"tearDown", b"end", b"skipping:"))
 """Selectors that other files or built-in messages send, not the tests."""
@@ -18,23 +19,36 @@ _DRIVEN = frozenset((b"handles:", b"setUp", b"tearDown", b"end", b"skipping:"))
 
 def checks(command: list[str]) -> Iterator[Check]:
     """All checks of the files."""
-    for path in [*sorted(FOLDER.glob("*.sif")), *sorted((FOLDER / CHOSEN).glob("*.sif"))]:
+    yield "the whole library is a program", _not_a_program(_naming_all(), [], command)
+    for path in sorted(FOLDER.glob("*.sif")):
         name = str(path.relative_to(FOLDER.parent))
-        yield "%s is a program" % name, _not_a_program(path, command)
-        file = read(path.read_bytes())
-        yield "%s is described" % name, _undescribed(file)
-        tests = FOLDER / "tests" / path.relative_to(FOLDER)
-        if path.stem != "test-lines":
-            yield "%s is used by its tests" % name, _unused(file, tests)
+        yield "%s is a program" % name, _not_a_program(path.read_bytes(), [], command)
+        yield from _of_file(path, name)
+    for wish in wishes_of(FOLDER):
+        path = FOLDER / CHOSEN / (wish + ".sif")
+        name = str(path.relative_to(FOLDER.parent))
+        yield "%s is a program" % name, _not_a_program(_naming_all(), [wish], command)
+        yield from _of_file(path, name)
 
 
-def _not_a_program(path: Path, command: list[str]) -> str | None:
+def _of_file(path: Path, name: str) -> Iterator[Check]:
+    file = read(path.read_bytes())
+    yield "%s is described" % name, _undescribed(file)
+    yield "%s is used by tests" % name, _unused(file)
+
+
+def _naming_all() -> bytes:
+    """A program that names every class of the library."""
+    names = b". ".join(library(FOLDER, []).classes)
+    return b"Smalltalk interchangeVersion: '1.0'!\nGlobal initializer!\n%s!\n" % names
+
+
+def _not_a_program(data: bytes, wishes: list[str], command: list[str]) -> str | None:
     """What keeps a file from being a program with what it needs, in which each message is answered."""
-    one = source(str(path), path.read_bytes())
+    one = source("it", data)
     refused = refusals(one)
     if refused:
         return "\n".join(refused)
-    wishes = ["test-lines"] if path.stem == "test-lines" else []
     linked = link([one], library(FOLDER, wishes))
     run = subprocess.run([*command, "check"], input=linked.text, capture_output=True, check=False)
     return "\n".join([*linked.warnings, run.stderr.decode()] if run.returncode or linked.warnings else []) or None
@@ -52,14 +66,20 @@ def _undescribed(file: File) -> str | None:
     return None
 
 
-def _unused(file: File, tests: Path) -> str | None:
-    """A method of the file that neither its tests send, nor the file itself."""
-    if not tests.is_file():
-        return "no %s" % tests
-    used: set[bytes] = set(_DRIVEN)
-    for unit in [*file.units, *read(tests.read_bytes()).units]:
-        needs = needs_of(unit)
-        used.update(needs.sent, needs.symbols)
+def _unused(file: File) -> str | None:
+    """A method of the file whose selector neither a test of the library sends, nor the file itself."""
+    used = _sent_by(file) | _sent_by_tests() | _DRIVEN
     selectors = [unit.parse()[0].selector for unit in file.methods()]
     unused = [selector.decode() for selector in selectors if selector not in used]
     return "unused: " + " ".join(unused) if unused else None
+
+
+@cache
+def _sent_by_tests() -> frozenset[bytes]:
+    return frozenset().union(*(_sent_by(read(path.read_bytes())) for path in (FOLDER / "tests").rglob("*.sif")))
+
+
+def _sent_by(file: File) -> frozenset[bytes]:
+    """What the units of a file send, or name as a symbol."""
+    needs = [needs_of(unit) for unit in file.units]
+    return frozenset().union(*(one.sent for one in needs), *(one.symbols for one in needs))

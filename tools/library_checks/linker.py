@@ -41,7 +41,7 @@ CASES = (
     Case("what is added may need more", program("Transcript show: #(1 2) average printString"),
          ("Collection>>sum", "Collection>>average"), writes="3/2"),
     Case("a symbol that may be sent", program("Transcript show: (3 perform: #squared) printString"),
-         ("Integer>>squared", "Fraction>>squared", "Symbol>>value:", "Symbol>>value:value:"), writes="9"),
+         ("Symbol>>value:", "Symbol>>value:value:", "Integer>>squared", "Fraction>>squared"), writes="9"),
     Case("symbols in the place of blocks", program("Transcript show: (#(1 2) inject: 0 into: #+) printString"),
          ("Symbol>>value:", "Symbol>>value:value:"), writes="3"),
     Case("the program's own method stays",

@@ -32,13 +32,13 @@ FIVE = VERSION + "Global constant: 'Five'!\nFive initializer!\n5!\n"
 UNDECLARED = VERSION + CLASS % ("BadTest", "TestCase", "") + _method("BadTest", "testBad", "^Zork")
 
 _TEXT = """\
-{0}/sample.sif:6:1: SampleTest>>#testFail failed: Got 3 instead of 4.
-{0}/sample.sif:9:1: SampleTest>>#testError erred: MessageNotUnderstood: SampleTest does not understand #zork
-{0}/sample.sif:12:1: SampleTest>>#testSkip skipped: not today
-{0}/sample.sif:18:1: SampleTest>>#testForever erred: step limit 1000
-{0}/sample.sif:21:1: SampleTest>>#testException erred: unhandled Exception: odd
+{0}/sample.sif:7:1: SampleTest>>#testFail failed: Got 3 instead of 4.
+{0}/sample.sif:10:1: SampleTest>>#testError erred: MessageNotUnderstood: Integer does not understand #zork
+{0}/sample.sif:13:1: SampleTest>>#testSkip skipped: not today
+{0}/sample.sif:19:1: SampleTest>>#testForever erred: step limit 1000
+{0}/sample.sif:22:1: SampleTest>>#testException erred: unhandled Exception: odd
 3 passed, 1 failed, 3 erred, 1 skipped in 1 file
-""".replace("SampleTest does not", "Integer does not")
+"""
 
 _TAP = """\
 TAP version 13
@@ -51,7 +51,7 @@ not ok 2 - InTest>>#testOther
   severity: |
     failed
   at: |
-    {0}/abstract.sif:11:1
+    {0}/abstract.sif:14:1
   ...
 """
 

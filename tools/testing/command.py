@@ -13,7 +13,7 @@ from linking.library import FOLDER, Library, Unusable, library
 
 from .programs import TOOLS
 from .reports import junit_of, tap_of, text_of, totals
-from .runs import Ending, FileReport, run_file
+from .runs import Ending, FileReport, NoProgram, run_file
 
 ABOUT = """Runs the tests of files, and says how each ended.
 
@@ -92,7 +92,7 @@ def main(arguments: list[str]) -> int:
         reports = run_all(given, found)
         if given.junit:
             given.junit.write_text(junit_of(reports), encoding="utf-8")
-    except (OSError, Unusable) as error:
+    except (OSError, Unusable, NoProgram) as error:
         print("test: %s" % error, file=sys.stderr)
         return 2
     print(tap_of(reports) if given.tap else text_of(reports), end="")

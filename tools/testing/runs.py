@@ -20,6 +20,10 @@ _LINE = re.compile(rb"\x1etest (begin|pass|fail|error|skip|end)(?: ([^\n]*))?\n"
 _REFUSED = re.compile(r"stx: refused element (\d+) byte (\d+) (\w+)\n")
 
 
+class NoProgram(Exception):
+    """There is no `stx` to run tests with."""
+
+
 class Ending(Enum):
     """How a test ends."""
 
@@ -107,7 +111,10 @@ def _outcomes(program: TestProgram, command: list[str]) -> list[Outcome]:
 
 def _run(program: TestProgram, skip: int, command: list[str]) -> Run:
     """Runs the program, but for so many tests at its beginning."""
-    done = subprocess.run(command, input=program.text(skip), capture_output=True, check=False)
+    try:
+        done = subprocess.run(command, input=program.text(skip), capture_output=True, check=False)
+    except OSError as error:
+        raise NoProgram("%s can't be run: %s" % (command[0], error.strerror)) from error
     report = done.stderr.decode("latin-1")
     refused = _REFUSED.fullmatch(report)
     if refused:
