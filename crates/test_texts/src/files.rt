@@ -1,0 +1,55 @@
+// Elements of files, and files that are read whole.
+
+use crate::rows::Case;
+use sif_chunks::ChunkReader;
+use sif_elements::reading::{ReadAnswer, read_definition};
+use st_answers::listing;
+use st_base::OutOfMemory;
+use st_tree::units::Definition;
+use std::alloc::Global;
+use std::fmt::Write;
+
+// How long a text is that is shown.
+const SHOWN: usize = 100;
+
+/// What a reader answers call by call, with the place and the text that it has then.
+pub fn elements(alloc: Global, case: &Case) -> Result<String, OutOfMemory> {
+    let mut source = case.source(alloc)?;
+    let mut reader = ChunkReader::new(alloc)?;
+    let mut out = String::new(alloc);
+    for _ in 0..case.calls {
+        let next = reader.next(&mut source);
+        let place = reader.place();
+        write!(out, "{next:?} {} {}", place.element, place.byte)?;
+        if reader.text().len() <= SHOWN {
+            write!(out, " {}", String::from_utf8_lossy(alloc, reader.text())?)?;
+        }
+        out.push_str("; ")?;
+    }
+    Ok(out)
+}
+
+// The number of each unit's first element, of a program and of its copy.
+fn numbers(alloc: Global, definition: &Definition) -> Result<String, OutOfMemory> {
+    let copy = definition.copy()?;
+    let lines = listing(alloc, copy.units.as_slice())?;
+    let mut out = String::new(alloc);
+    for at in 0..copy.units.len() {
+        write!(out, "{} ", copy.element_of(at))?;
+    }
+    write!(out, "{}", String::from_utf8_lossy(alloc, &lines)?)?;
+    Ok(out)
+}
+
+/// What reading a file answers, with the units of a copy of its program.
+pub fn read(alloc: Global, case: &Case) -> Result<String, OutOfMemory> {
+    let mut source = case.source(alloc)?;
+    match read_definition(alloc, &mut source) {
+        ReadAnswer::Read(definition) => numbers(alloc, &definition),
+        ReadAnswer::Refused(place, reason) => {
+            Ok(format!(in alloc; "{reason:?} at {} {}", place.element, place.byte)?)
+        }
+        ReadAnswer::ReadFault => Ok(format!(in alloc; "{} read faults", source.faults())?),
+        ReadAnswer::OutOfMemory => Err(OutOfMemory),
+    }
+}
