@@ -15,51 +15,59 @@ use std::fmt::Write;
 // The greatest limit of cells.
 const MOST_CELLS: u32 = 67_108_864;
 
-/// A heap of lists.
+/// A heap of lists and one of cells, to which the same calls are made.
 #[derive(Drop)]
-pub struct Plain {
-    heap: ListHeap,
+pub struct Heaps {
+    plain: ListHeap,
+    cells: CellHeap,
 }
 
-/// A heap of cells.
+impl Heaps {
+    /// Heaps with this limit, and in each a literal String of so many slots and bytes.
+    pub fn new(alloc: Global, row: &Row) -> Result<Heaps, OutOfMemory> {
+        let charge = charge_of(row.limit(1), row.limit(2));
+        if row.limit(0) > MOST_CELLS || charge > MOST_CELLS as u64 {
+            return Err(OutOfMemory);
+        }
+        let mut plain = ListHeap::new(alloc, row.limit(0))?;
+        let mut cells = CellHeap::new(alloc, row.limit(0), charge as u32)?;
+        if row.limits.len() > 1 {
+            plain.make_literal(9, row.limit(1), row.limit(2))?;
+            cells.make_literal(9, row.limit(1), row.limit(2))?;
+        }
+        Ok(Heaps { plain, cells })
+    }
+}
+
+impl Part for Heaps {
+    fn answer(&mut self, alloc: Global, call: &Call<'_>) -> Result<String, OutOfMemory> {
+        let plain = heap_answer(alloc, &mut self.plain, call)?;
+        let cells = heap_answer(alloc, &mut self.cells, call)?;
+        if plain.as_str() == cells.as_str() {
+            return Ok(plain);
+        }
+        Ok(format!(in alloc; "{plain} in lists, {cells} in cells")?)
+    }
+}
+
+/// The heap that the literals of a program make.
 #[derive(Drop)]
-pub struct Cells {
+pub struct Literals {
     heap: CellHeap,
 }
 
-impl Plain {
-    /// A heap with this limit, and a literal String of so many slots and bytes.
-    pub fn new(alloc: Global, row: &Row) -> Result<Plain, OutOfMemory> {
-        let mut heap = ListHeap::new(alloc, row.limit(0))?;
-        if row.limits.len() > 2 {
-            heap.make_literal(9, row.limit(1), row.limit(2))?;
-        }
-        Ok(Plain { heap })
+impl Literals {
+    /// The literals of the row's file, in a heap with this limit.
+    pub fn new(alloc: Global, row: &Row) -> Result<Literals, OutOfMemory> {
+        let image = build(alloc, definition_of(alloc, row)?)?;
+        let heap = literal_heap(alloc, &image, row.limit(0))?;
+        Ok(Literals { heap })
     }
 }
 
-impl Cells {
-    /// A heap with this limit, and a literal String of so many slots and bytes.
-    pub fn new(alloc: Global, row: &Row) -> Result<Cells, OutOfMemory> {
-        if row.limit(0) > MOST_CELLS {
-            return Err(OutOfMemory);
-        }
-        let charge = charge_of(row.limit(1), row.limit(2));
-        if charge > MOST_CELLS as u64 {
-            return Err(OutOfMemory);
-        }
-        let mut heap = CellHeap::new(alloc, row.limit(0), charge as u32)?;
-        if row.limits.len() > 2 {
-            heap.make_literal(9, row.limit(1), row.limit(2))?;
-        }
-        Ok(Cells { heap })
-    }
-
-    /// The heap that the literals of a program make, with this limit.
-    pub fn of_program(alloc: Global, row: &Row) -> Result<Cells, OutOfMemory> {
-        let image = build(alloc, definition_of(alloc, row)?)?;
-        let heap = literal_heap(alloc, &image, row.limit(0))?;
-        Ok(Cells { heap })
+impl Part for Literals {
+    fn answer(&mut self, alloc: Global, call: &Call<'_>) -> Result<String, OutOfMemory> {
+        heap_answer(alloc, &mut self.heap, call)
     }
 }
 
@@ -73,18 +81,6 @@ pub fn definition_of(alloc: Global, row: &Row) -> Result<Definition, OutOfMemory
             let units = UnitList::new(alloc);
             Ok(Definition { units })
         }
-    }
-}
-
-impl Part for Plain {
-    fn answer(&mut self, alloc: Global, call: &Call<'_>) -> Result<String, OutOfMemory> {
-        heap_answer(alloc, &mut self.heap, call)
-    }
-}
-
-impl Part for Cells {
-    fn answer(&mut self, alloc: Global, call: &Call<'_>) -> Result<String, OutOfMemory> {
-        heap_answer(alloc, &mut self.heap, call)
     }
 }
 

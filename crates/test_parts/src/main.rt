@@ -16,7 +16,7 @@ mod stacks;
 use anyhow::Result;
 use call::Call;
 use collections::Collections;
-use heaps::{Cells, Plain};
+use heaps::{Heaps, Literals};
 use images::Program;
 use numbers::Numbers;
 use part::{Part, Row};
@@ -47,20 +47,15 @@ fn try_calls<P: Part>(rt: &HostRuntime, row: &Row, part: &mut P) -> Result<u64> 
 fn try_row(rt: &HostRuntime, row: &Row) -> Result<u64> {
     let alloc = rt.alloc();
     match row.part.as_str() {
-        "plain heap" => try_calls(
+        "heaps" => try_calls(
             rt,
             row,
-            &mut Plain::new(alloc, row).map_err(|_| AllocError)?,
-        ),
-        "cells" => try_calls(
-            rt,
-            row,
-            &mut Cells::new(alloc, row).map_err(|_| AllocError)?,
+            &mut Heaps::new(alloc, row).map_err(|_| AllocError)?,
         ),
         "literals" => try_calls(
             rt,
             row,
-            &mut Cells::of_program(alloc, row).map_err(|_| AllocError)?,
+            &mut Literals::new(alloc, row).map_err(|_| AllocError)?,
         ),
         "stack" => try_calls(
             rt,
