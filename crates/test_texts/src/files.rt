@@ -5,7 +5,8 @@ use sif_chunks::ChunkReader;
 use sif_elements::reading::{ReadAnswer, read_definition};
 use st_answers::listing;
 use st_base::OutOfMemory;
-use st_tree::units::Definition;
+use st_tree::tree::Statement;
+use st_tree::units::{Definition, Unit, UnitKind};
 use std::alloc::Global;
 use std::fmt::Write;
 
@@ -52,4 +53,32 @@ pub fn read(alloc: Global, case: &Case) -> Result<String, OutOfMemory> {
         ReadAnswer::ReadFault => Ok(format!(in alloc; "{} read faults", source.faults())?),
         ReadAnswer::OutOfMemory => Err(OutOfMemory),
     }
+}
+
+// The place of the first message in the first statement of a method.
+fn first_message(unit: &Unit) -> Option<u32> {
+    let UnitKind::Method { method, .. } = &unit.kind else {
+        return None;
+    };
+    let Some(Statement::Value(expr)) = method.body.statements.get(0) else {
+        return None;
+    };
+    match expr.operand.chain.get(0) {
+        Some(message) => Some(message.at),
+        None => None,
+    }
+}
+
+/// The places of each unit's first message, in a copy of a file's program.
+pub fn places(alloc: Global, case: &Case) -> Result<String, OutOfMemory> {
+    let mut source = case.source(alloc)?;
+    let mut out = String::new(alloc);
+    let ReadAnswer::Read(definition) = read_definition(alloc, &mut source) else {
+        return Ok(out);
+    };
+    let copy = definition.copy()?;
+    for unit in copy.units.as_slice() {
+        write!(out, "{:?} ", first_message(unit))?;
+    }
+    Ok(out)
 }

@@ -23,6 +23,7 @@ fn answer_of(alloc: Global, call: &str, case: &Case) -> Result<String, OutOfMemo
         "copy" => texts::copied(alloc, case.text.as_bytes()),
         "next" => files::elements(alloc, case),
         "read" => files::read(alloc, case),
+        "places" => files::places(alloc, case),
         "take" => devices::taken(alloc, case),
         "put_all" => devices::put(alloc, case),
         "put" => devices::put_elements(alloc, case),
