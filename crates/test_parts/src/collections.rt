@@ -118,9 +118,9 @@ fn collection_row(row: MessageRow) -> Option<CollectionMessage> {
 fn first_of(arguments: &[Value]) -> Value
     ensures { result ≡ first arguments.now }
 {
-    match arguments.first() {
-        Some(value) => *value,
-        None => Value::Nil,
+    match arguments {
+        [value, ..] => *value,
+        [] => Value::Nil,
     }
 }
 

@@ -25,15 +25,16 @@ pub struct Heaps {
 impl Heaps {
     /// Heaps with this limit, and in each a literal String of so many slots and bytes.
     pub fn new(alloc: Global, row: &Row) -> Result<Heaps, OutOfMemory> {
-        let charge = charge_of(row.limit(1), row.limit(2));
-        if row.limit(0) > MOST_CELLS || charge > MOST_CELLS as u64 {
+        let (limit, slots, bytes) = (row.limit(0), row.limit(1), row.limit(2));
+        let charge = charge_of(slots, bytes);
+        if limit > MOST_CELLS || charge > MOST_CELLS as u64 {
             return Err(OutOfMemory);
         }
-        let mut plain = ListHeap::new(alloc, row.limit(0))?;
-        let mut cells = CellHeap::new(alloc, row.limit(0), charge as u32)?;
+        let mut plain = ListHeap::new(alloc, limit)?;
+        let mut cells = CellHeap::new(alloc, limit, charge as u32)?;
         if row.limits.len() > 1 {
-            plain.make_literal(9, row.limit(1), row.limit(2))?;
-            cells.make_literal(9, row.limit(1), row.limit(2))?;
+            plain.make_literal(9, slots, bytes)?;
+            cells.make_literal(9, slots, bytes)?;
         }
         Ok(Heaps { plain, cells })
     }
