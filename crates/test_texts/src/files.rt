@@ -1,4 +1,6 @@
 // Elements of files, and files that are read whole.
+ghost use Rattle.std.specs.Prelude.{◌<◌, ◌-◌, ◌^◌};
+ghost use Rattle.st_tree.specs.Numbers.{elements_in};
 
 use crate::rows::Case;
 use sif_chunks::ChunkReader;
@@ -31,7 +33,9 @@ pub fn elements(alloc: Global, case: &Case) -> Result<String, OutOfMemory> {
 }
 
 // The number of each unit's first element, of a program and of its copy.
-fn numbers(alloc: Global, definition: &Definition) -> Result<String, OutOfMemory> {
+fn numbers(alloc: Global, definition: &Definition) -> Result<String, OutOfMemory>
+    requires { elements_in definition.now.units < 2 ^ 32 - 1 }
+{
     let copy = definition.copy()?;
     let lines = listing(alloc, copy.units.as_slice())?;
     let mut out = String::new(alloc);
