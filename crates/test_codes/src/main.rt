@@ -75,24 +75,29 @@ fn has_facts(rt: &HostRuntime, program: &Program, loaded: &Loaded) -> Result<boo
     Ok(false)
 }
 
-// Compiles a program, and prints how many of its codes differ, and whether all else is as wanted.
-fn try_program(rt: &HostRuntime, program: &Program) -> Result<()> {
-    let Some(loaded) = loaded(rt.alloc(), program.text.as_bytes()).map_err(|_| AllocError)? else {
-        println!(rt; "{}: not read", program.name)?;
-        return Ok(());
-    };
-    let differing = differing_codes(rt, program, &loaded)?;
+// Prints how many codes of a compiled program differ, and whether all else is as wanted.
+fn print_outcome(rt: &HostRuntime, program: &Program, loaded: &Loaded) -> Result<()> {
+    let differing = differing_codes(rt, program, loaded)?;
+    let known = has_facts(rt, program, loaded)?;
     let count = loaded.codes().len();
-    let known = if has_facts(rt, program, &loaded)? {
-        "as wanted"
-    } else {
-        "others"
-    };
+    let facts = if known { "as wanted" } else { "others" };
     println!(rt;
-        "{}: {count} codes, {differing} differ, {known}",
+        "{}: {count} codes, {differing} differ, {facts}",
         program.name
     )?;
     Ok(())
+}
+
+// Compiles a program, and prints what comes of it.
+fn try_program(rt: &HostRuntime, program: &Program) -> Result<()> {
+    match loaded(rt.alloc(), program.text.as_bytes()) {
+        Ok(Some(loaded)) => print_outcome(rt, program, &loaded),
+        Ok(None) => {
+            println!(rt; "{}: not read", program.name)?;
+            Ok(())
+        }
+        Err(_) => Err(AllocError.into()),
+    }
 }
 
 fn main(rt: HostRuntime) -> Result<()> {

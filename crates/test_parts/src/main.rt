@@ -13,7 +13,6 @@ mod part;
 mod replies;
 mod stacks;
 
-use anyhow::Result;
 use call::Call;
 use collections::Collections;
 use heaps::{Heaps, Literals};
@@ -21,17 +20,23 @@ use images::Program;
 use numbers::Numbers;
 use part::{Part, Row};
 use replies::Replies;
+use st_base::OutOfMemory;
 use stacks::Stack;
-use std::alloc::AllocError;
+use std::alloc::{AllocError, Global};
 use std::io::{BufRead, BufReader};
 
+// What a call answers.
+fn answered<P: Part>(alloc: Global, part: &mut P, asked: &str) -> Result<String, OutOfMemory> {
+    let call = Call::new(alloc, asked)?;
+    part.answer(alloc, &call)
+}
+
 // Makes the calls of a row, and says how many answered otherwise than wanted.
-fn try_calls<P: Part>(rt: &HostRuntime, row: &Row, part: &mut P) -> Result<u64> {
+fn try_calls<P: Part>(rt: &HostRuntime, row: &Row, part: &mut P) -> anyhow::Result<u64> {
     let mut differing = 0u64;
     for line in &row.calls {
         let (asked, wanted) = line.split_once(" => ").unwrap_or((line.as_str(), ""));
-        let call = Call::new(rt.alloc(), asked).map_err(|_| AllocError)?;
-        let found = part.answer(rt.alloc(), &call).map_err(|_| AllocError)?;
+        let found = answered(rt.alloc(), part, asked).map_err(|_| AllocError)?;
         if found.as_str() != wanted {
             differing = differing.saturating_add(1);
             println!(rt;
@@ -43,40 +48,33 @@ fn try_calls<P: Part>(rt: &HostRuntime, row: &Row, part: &mut P) -> Result<u64> 
     Ok(differing)
 }
 
-// Makes what the calls of a row are made to, and makes them.
-fn try_row(rt: &HostRuntime, row: &Row) -> Result<u64> {
-    let alloc = rt.alloc();
-    match row.part.as_str() {
-        "heaps" => try_calls(
-            rt,
-            row,
-            &mut Heaps::new(alloc, row).map_err(|_| AllocError)?,
-        ),
-        "literals" => try_calls(
-            rt,
-            row,
-            &mut Literals::new(alloc, row).map_err(|_| AllocError)?,
-        ),
-        "stack" => try_calls(
-            rt,
-            row,
-            &mut Stack::new(alloc, row).map_err(|_| AllocError)?,
-        ),
-        "program" => try_calls(
-            rt,
-            row,
-            &mut Program::new(alloc, row).map_err(|_| AllocError)?,
-        ),
-        "numbers" => try_calls(rt, row, &mut Numbers),
-        "collections" => {
-            let mut part = Collections::new(alloc, row).map_err(|_| AllocError)?;
-            try_calls(rt, row, &mut part)
-        }
-        _ => try_calls(rt, row, &mut Replies::new(alloc).map_err(|_| AllocError)?),
+// Makes the calls of a row to what was made for it.
+fn try_part<P: Part + Drop>(
+    rt: &HostRuntime,
+    row: &Row,
+    made: Result<P, OutOfMemory>,
+) -> anyhow::Result<u64> {
+    match made {
+        Ok(mut part) => try_calls(rt, row, &mut part),
+        Err(_) => Err(AllocError.into()),
     }
 }
 
-fn main(rt: HostRuntime) -> Result<()> {
+// Makes what the calls of a row are made to, and makes them.
+fn try_row(rt: &HostRuntime, row: &Row) -> anyhow::Result<u64> {
+    let alloc = rt.alloc();
+    match row.part.as_str() {
+        "heaps" => try_part(rt, row, Heaps::new(alloc, row)),
+        "literals" => try_part(rt, row, Literals::new(alloc, row)),
+        "stack" => try_part(rt, row, Stack::new(alloc, row)),
+        "program" => try_part(rt, row, Program::new(alloc, row)),
+        "numbers" => try_calls(rt, row, &mut Numbers),
+        "collections" => try_part(rt, row, Collections::new(alloc, row)),
+        _ => try_part(rt, row, Replies::new(alloc)),
+    }
+}
+
+fn main(rt: HostRuntime) -> anyhow::Result<()> {
     let alloc = rt.alloc();
     for line in BufReader::new(alloc, rt.reader())?.lines(alloc) {
         let row: Row = serde_json::from_str(alloc, line?.as_str())?;
