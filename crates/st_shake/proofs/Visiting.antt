@@ -1,10 +1,10 @@
 -- What a loop over a growing list of selectors comes to: the least set. Each selector is visited once, by its place.
-use Rattle.std.proofs.Common.{◌≡◌, ◌⊎◌, inl, inr, ℕ, zero, suc, ◌+◌, ◌<◌, ◌≤◌, List, [], ◌∷◌, ◌++◌, length, get_or, slice_get, Option, Some, refl, sym, ap, ◌∙◌, subst, arith}
+use Rattle.std.proofs.Common.{◌≡◌, ◌⊎◌, inl, inr, ℕ, zero, suc, ◌+◌, ◌<◌, ◌≤◌, List, [], ◌∷◌, ◌++◌, length, get_or, slice_get, Option, Some, sym, ap, ◌∙◌, subst, arith}
 use Rattle.std.proofs.lemmas.List.{get_or_append_left, length-append}
 use Rattle.st_code.specs.Texts.{Text}
 use Rattle.program_image.specs.Spelled.{spelled}
 use Rattle.program_image.proofs.Spelling.{spelled-append}
-use Rattle.st_shake.specs.Needed.{Method, Has, OneOf, IsClosed, IsLeast}
+use Rattle.st_shake.specs.Needed.{Method, Has, IsClosed, IsLeast}
 use Rattle.st_shake.specs.Table.{from_place, last_of, under}
 use Rattle.st_shake.proofs.Spelling.{all_kept, all_there, none_else, spelled_extends}
 use Rattle.st_shake.proofs.Tables.{before_or_at, from-last, under_from, under_has}

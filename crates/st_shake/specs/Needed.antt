@@ -1,7 +1,7 @@
 -- Which selectors a run can come to by name: the least set of what is always needed, what initializers spell, and what each method spells whose selector is in it.
 use Rattle.std.specs.Prelude.{◌≡◌, ◌⊎◌, ℕ, zero, suc, true, false, List, [], ◌∷◌, ◌++◌, length, Option, Some, None, codes}
 use Rattle.st_code.specs.Texts.{Text}
-use Rattle.st_code.specs.Named.{NamedMethod, NamedUnit, ClassUnit, GlobalUnit, PoolVariableUnit, InitializerUnit, PoolInitializerUnit, ProgramUnit, MethodUnit, ClassMethodUnit}
+use Rattle.st_code.specs.Named.{NamedMethod, NamedUnit, InitializerUnit, PoolInitializerUnit, ProgramUnit, MethodUnit, ClassMethodUnit}
 use Rattle.st_code.specs.Resolved.{has_text}
 use Rattle.program_image.specs.Spelled.{statements_texts}
 

@@ -1,5 +1,4 @@
-use Rattle.std.proofs.Common.{◌∙◌, List, ap, subst}
-use Rattle.st_tree.specs.declared.units.Unit.{Unit}
+use Rattle.std.proofs.Common.{◌∙◌, ap}
 use Rattle.st_shake.specs.Shaken.{shaken}
 use Rattle.st_shake.proofs.Kept.{kept-shaken}
 use Rattle.st_shake.proofs.shaken.shake.Goals as goal

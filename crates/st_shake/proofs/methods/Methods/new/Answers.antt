@@ -1,4 +1,4 @@
-use Rattle.std.proofs.Common.{ap, refl}
+use Rattle.std.proofs.Common.{ap}
 use Rattle.st_code.specs.Written.{named_units}
 use Rattle.st_shake.specs.Table.{entry_methods}
 use Rattle.st_shake.proofs.Tables.{methods-more, no-table, table-more}

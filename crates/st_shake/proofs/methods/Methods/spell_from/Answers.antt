@@ -1,4 +1,4 @@
-use Rattle.std.proofs.Common.{◌≡◌, ◌∙◌, ap, length, sym}
+use Rattle.std.proofs.Common.{◌∙◌, ap, length, sym}
 use Rattle.program_image.specs.Spelled.{spelled}
 use Rattle.st_shake.specs.Table.{entry_method, from_place}
 use Rattle.st_shake.proofs.Tables.{link-at, reach-smaller, spelled-entry, within-list}
