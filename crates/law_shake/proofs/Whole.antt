@@ -1,5 +1,5 @@
 -- Two programs that are renamed into one run alike.
-use Rattle.std.proofs.Common.{◌≡◌, ℕ, zero, suc, ◌+◌, ◌++◌, codes, refl, sym, ap, ◌∙◌, subst, arith}
+use Rattle.std.proofs.Common.{◌≡◌, ℕ, zero, suc, ◌+◌, refl, sym, ap, ◌∙◌, subst, arith}
 use Rattle.object_heap.specs.declared.value.Value.{Value}
 use Rattle.object_heap.specs.declared.value.Value.TheVariants.{Object}
 use Rattle.object_heap.specs.Store.{Store, Object as HeapObject, object_at}
@@ -18,7 +18,6 @@ use Rattle.st_rules.proofs.FlatTop.{TopFollows, top_law, opened_law, flat_follow
 use Rattle.st_rules.proofs.ObjectsRun.{objects_stand}
 use Rattle.st_rules.proofs.FollowedRun.{follows_the_rules}
 use Rattle.law_shake.specs.Renaming.{Renaming, object, ren, ren_store, ren_top, IsRenamed}
-use Rattle.st_transcript.specs.Unhandled.{unhandled_text}
 use Rattle.law_shake.specs.Told.{Told, ToldDone, ToldUnhandled, told}
 use Rattle.law_shake.proofs.Lookups.{object_read, class_same, exception_text_ren}
 use Rattle.law_shake.proofs.Steps.{RowsAlike, TopRoom, run_same, instructions_same}
@@ -130,16 +129,16 @@ module _ (q p : Program) (ok : Compilable q) (known : KnowsLiterals q) (ok' : Co
   told_of w (Ended e st) = told w st.store e
   told_of w t = ToldDone
 
-  unhandled_ren : (x : Renaming) (w : Program) (r : Program) → IsRenamed x r w → (s : Store) (v : Value) → unhandled_text w (ren_store x s) (ren x v) ≡ unhandled_text r s v
+  unhandled_ren : (x : Renaming) (w : Program) (r : Program) → IsRenamed x r w → (s : Store) (v : Value) → told w (ren_store x s) (Unhandled (ren x v)) ≡ told r s (Unhandled v)
   unhandled_ren x w r is s (Object n) =
-      ap (λ (o : HeapObject). (class_at w o.class).name ++ (codes ": " ++ exception_text w (ren_store x s) (object x n))) (object_read x s n)
-      ∙ ap (λ (c : ClassRow). c.name ++ (codes ": " ++ exception_text w (ren_store x s) (object x n))) (class_same x r w is (object_at n s).class)
-      ∙ ap (λ t. (class_at r (object_at n s).class).name ++ (codes ": " ++ t)) (exception_text_ren x r w is s n)
+      ap (λ (o : HeapObject). ToldUnhandled (class_at w o.class).name (exception_text w (ren_store x s) (object x n))) (object_read x s n)
+      ∙ ap (λ (c : ClassRow). ToldUnhandled c.name (exception_text w (ren_store x s) (object x n))) (class_same x r w is (object_at n s).class)
+      ∙ ap (ToldUnhandled (class_at r (object_at n s).class).name) (exception_text_ren x r w is s n)
   unhandled_ren x w r is s v = refl
 
   told_ren : (x : Renaming) (w : Program) (r : Program) → IsRenamed x r w → (e : Ending) (st : State) → told_of w (ren_top x (Ended e st)) ≡ told r st.store e
   told_ren x w r is Done st = refl
-  told_ren x w r is (Unhandled v) st = ap ToldUnhandled (unhandled_ren x w r is st.store v)
+  told_ren x w r is (Unhandled v) st = unhandled_ren x w r is st.store v
   told_ren x w r is (AtLimit l) st = refl
   told_ren x w r is Stranded st = refl
 
