@@ -146,10 +146,10 @@ module _ (units : List NamedUnit) where
   same_first : always_needed ++ texts_of (shaken_units units) ≡ always_needed ++ texts_of units
   same_first = ap (λ ts. always_needed ++ ts) (first_kept (needed units) units)
 
-  fewer : (t : Text) → Has (needed (shaken_units units)) t → Has (needed units) t
+  pub fewer : (t : Text) → Has (needed (shaken_units units)) t → Has (needed units) t
   fewer = least_again.least (needed units) (λ t h. least_of.has_first t (subst (λ ts. Has ts t) same_first h)) (record { by = λ m one. least_of.is_closed.by m (method_was (needed units) units m one) })
 
-  more : (t : Text) → Has (needed units) t → Has (needed (shaken_units units)) t
+  pub more : (t : Text) → Has (needed units) t → Has (needed (shaken_units units)) t
   more =
       least_of.least (needed (shaken_units units)) (λ t h. least_again.has_first t (subst (λ ts. Has ts t) (sym same_first) h))
       (record { by = λ m one h. least_again.is_closed.by m (method_stays (needed units) units m one (fewer m.selector h)) h })
