@@ -22,3 +22,7 @@ pub mod Shaken
 pub mod SymbolsHeld
 pub mod Spellings
 pub mod ShakenExamples
+pub mod FileLaws
+pub mod Lines
+pub mod Rules
+pub mod RunLaws

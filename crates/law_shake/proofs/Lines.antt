@@ -1,5 +1,5 @@
 -- In units each of whose classes stands behind its superclass, the line upwards of a class is as long as it may be once a step is left for each unit.
-use Rattle.std.proofs.Common.{◌≡◌, ◌⊎◌, inl, inr, ℕ, zero, suc, ◌+◌, ◌<◌, ◌≤◌, not, ◌||◌, cond, List, [], ◌∷◌, ◌++◌, length, Option, Some, None, Bool, true, false, true≢false, refl, sym, ap, ◌∙◌, subst, append_assoc, append-nil, arith, if◌then◌else◌}
+use Rattle.std.proofs.Common.{◌≡◌, ◌⊎◌, inl, inr, ℕ, zero, suc, ◌+◌, ◌≤◌, not, ◌||◌, cond, List, [], ◌∷◌, ◌++◌, length, Some, None, Bool, true, false, true≢false, refl, sym, ap, ◌∙◌, subst, append_assoc, append-nil, arith, if◌then◌else◌}
 use Rattle.std.specs.List.{list_any, find}
 use Rattle.std.specs.Str.{bytes_eq}
 use Rattle.std.proofs.lemmas.List.{length-append}
@@ -15,7 +15,7 @@ use Rattle.st_shake.proofs.Texts.{bytes_eq-is}
 
 -- ---- names of built-in superclasses are those of built-in classes
 
-neither : (a b : Bool) → (a || b) ≡ false → (a ≡ false) × (b ≡ false)
+pub neither : (a b : Bool) → (a || b) ≡ false → (a ≡ false) × (b ≡ false)
 neither true b e = absurd (true≢false e)
 neither false b e = (refl, e)
 
@@ -50,18 +50,18 @@ Ordered before [] = Unit {0}
 Ordered before (u ∷ units) = (lacks_superclass before u.kind ≡ false) × Ordered (before ++ u ∷ []) units
 
 any_push : {A : Type 0} (p : A → Bool) (xs : List A) (y : A) → list_any p (xs ++ y ∷ []) ≡ true → list_any p xs ≡ false → p y ≡ true
-any_push p [] y h no = elim (or_is (p y) false h) [ inl a ↦ a | inr b ↦ absurd (true≢false (sym b)) ]
-any_push p (x ∷ xs) y h no =
-    let other = neither (p x) (list_any p xs) no in
+any_push p [] y h fails = elim (or_is (p y) false h) [ inl a ↦ a | inr b ↦ absurd (true≢false (sym b)) ]
+any_push p (x ∷ xs) y h fails =
+    let other = neither (p x) (list_any p xs) fails in
     any_push p xs y (sym (ap (λ b. b || list_any p (xs ++ y ∷ [])) other.0) ∙ h) other.1
 
 find_none : {A : Type 0} (p : A → Bool) (xs : List A) → list_any p xs ≡ false → find p xs ≡ None
-find_none p [] no = refl
-find_none p (x ∷ xs) no = let other = neither (p x) (list_any p xs) no in ap (λ b. cond b (Some x) (find p xs)) other.0 ∙ find_none p xs other.1
+find_none p [] fails = refl
+find_none p (x ∷ xs) fails = let other = neither (p x) (list_any p xs) fails in ap (λ b. cond b (Some x) (find p xs)) other.0 ∙ find_none p xs other.1
 
 find_behind : {A : Type 0} (p : A → Bool) (xs : List A) (y : A) (ys : List A) → list_any p xs ≡ false → p y ≡ true → find p (xs ++ y ∷ ys) ≡ Some y
-find_behind p [] y ys no is = ap (λ b. cond b (Some y) (find p ys)) is
-find_behind p (x ∷ xs) y ys no is = let other = neither (p x) (list_any p xs) no in ap (λ b. cond b (Some x) (find p (xs ++ y ∷ ys))) other.0 ∙ find_behind p xs y ys other.1 is
+find_behind p [] y ys fails is = ap (λ b. cond b (Some y) (find p ys)) is
+find_behind p (x ∷ xs) y ys fails is = let other = neither (p x) (list_any p xs) fails in ap (λ b. cond b (Some x) (find p (xs ++ y ∷ ys))) other.0 ∙ find_behind p xs y ys other.1 is
 
 -- ---- the line of a class
 
@@ -83,8 +83,8 @@ module _ (all : List FileUnit) where
   above : (before : List FileUnit) (c : ClassUnit) → Short before → lacks_superclass before (kinds.Class c) ≡ false → (k m : ℕ) → length before ≤ k → length before ≤ m → from_class k all (class_named all c.superclass) ≡ from_class m all (class_named all c.superclass)
   above before c short lacks k m lk lm = elim (or_is (list_any (bytes_eq c.superclass) superclasses) (list_any (declares_class c.superclass) before) (not_false _ lacks)) [
     | inl built ↦
-      let none = built_in_none c.superclass (among_built superclasses all_built c.superclass built) in
-      ap (from_class k all) none ∙ none_from k m ∙ ap (from_class m all) (sym none)
+        let none = built_in_none c.superclass (among_built superclasses all_built c.superclass built) in
+        ap (from_class k all) none ∙ none_from k m ∙ ap (from_class m all) (sym none)
     | inr there ↦ short c.superclass there k m lk lm
   ]
 
@@ -112,7 +112,7 @@ module _ (all : List FileUnit) where
       at_class (kinds.Comment ts) lacks k m lk lm = none_from k m
 
       named : list_any (declares_class name) before ≡ false → find (declares_class name) all ≡ Some u
-      named no = ap (find (declares_class name)) whole ∙ find_behind (declares_class name) before u rest no (any_push (declares_class name) before u there no)
+      named fails = ap (find (declares_class name)) whole ∙ find_behind (declares_class name) before u rest fails (any_push (declares_class name) before u there fails)
 
       at : (b : Bool) → is_built_in name ≡ b → find (declares_class name) all ≡ Some u → from_class k all (class_named all name) ≡ from_class m all (class_named all name)
       at true is found = let none = built_in_none name is in ap (from_class k all) none ∙ none_from k m ∙ ap (from_class m all) (sym none)

@@ -1,5 +1,5 @@
 -- What is kept of two programs: by what is sent, and by a symbol that is performed.
-use Rattle.std.proofs.Common.{◌≡◌, pos, List, [], ◌∷◌, refl, true, codes}
+use Rattle.std.proofs.Common.{◌≡◌, pos, [], ◌∷◌, refl, true, codes}
 use Rattle.st_code.specs.Texts.{Text, same_text}
 use Rattle.st_code.specs.Program.{NoIndexes}
 use Rattle.st_code.specs.Named.{IntegerLiteral, SymbolLiteral, NameOf, SelfName, LiteralOf, OperandOf, no_operands, more_operands, NamedMessages, none_sent, then_sent, ExprOf, no_statements, more_statements, NamedPrimary, NamedBody, NamedUnit, ClassUnit, ProgramUnit, MethodUnit}
@@ -44,4 +44,3 @@ shown = refl
 performed : shaken_units (class ∷ a ∷ b ∷ c ∷ performs ∷ []) ≡ class ∷ b ∷ c ∷ performs ∷ []
 unfolding always_needed closure same_text
 performed = refl
-

@@ -17,12 +17,15 @@ use Rattle.st_shake.specs.Needed.{methods_of, first_texts, texts_of, needed}
 use Rattle.law_shake.specs.Kept.{shaken_units}
 use Rattle.law_shake.specs.Names.{Spells}
 use Rattle.st_shake.proofs.Closing.{closure_is_least}
+use Rattle.st_shake.proofs.Kept.{both_ways}
+use Rattle.st_shake.proofs.Texts.{has_at, has_before, has_behind, has_itself}
+use Rattle.program_image.specs.Spelled.{statements_texts, unit_texts, units_texts}
 use Rattle.law_shake.proofs.Symbols.{symbol_in, by_place, by_need, number_is}
-use Rattle.law_shake.proofs.Programs.{whole}
+use Rattle.law_shake.proofs.Programs.{names_are, whole}
 use Rattle.law_shake.proofs.AllRows.{rows_alike}
 use Rattle.law_shake.proofs.Steps.{run_same}
 use Rattle.law_shake.proofs.Whole.{rooms}
-use Rattle.law_shake.proofs.Shaken.{AllClosed, x, symbol, renamed, sends_here, closes_here, every, every_closed, sends_every, other_is, again}
+use Rattle.law_shake.proofs.Shaken.{AllClosed, x, symbol, renamed, sends_here, closes_here}
 
 -- ---- units that are kept are kept again
 
@@ -111,6 +114,28 @@ module _ (need : List Text) where
   method_stays (PoolInitializerUnit pool name b ∷ us) m one h = method_stays us m one h
   method_stays (ProgramUnit b ∷ us) m one h = method_stays us m one h
 
+-- ---- units all of whose texts are in a set
+
+closed_in : (set : List Text) (us : List NamedUnit) → ((t : Text) → Has (units_texts us) t → Has set t) → AllClosed set us
+closed_in set [] g = tt
+closed_in set (u ∷ us) g = ((λ e t h. g t (has_before (unit_texts u) (units_texts us) t h)), closed_in set us (λ t h. g t (has_behind (unit_texts u) (units_texts us) t h)))
+
+kept_in : (set : List Text) (us : List NamedUnit) → ((t : Text) → Has (units_texts us) t → Has set t) → kept_units set us ≡ us
+kept_in set [] g = refl
+kept_in set (u ∷ us) g =
+    ap (λ b. kept_before b u (kept_units set us)) (at u (λ t h. g t (has_before (unit_texts u) (units_texts us) t h)))
+    ∙ ap (λ vs. u ∷ vs) (kept_in set us (λ t h. g t (has_behind (unit_texts u) (units_texts us) t h)))
+  where
+    at : (u : NamedUnit) → ((t : Text) → Has (unit_texts u) t → Has set t) → is_kept set u ≡ true
+    at (ClassUnit k) h = refl
+    at (GlobalUnit name) h = refl
+    at (PoolVariableUnit pool name) h = refl
+    at (InitializerUnit target b) h = refl
+    at (PoolInitializerUnit pool name b) h = refl
+    at (ProgramUnit b) h = refl
+    at (MethodUnit class m) h = h m.selector (has_itself m.selector (statements_texts m.body.statements))
+    at (ClassMethodUnit class m) h = h m.selector (has_itself m.selector (statements_texts m.body.statements))
+
 -- ---- shaking twice
 
 pub same_tests : (a b : List Text) → ((t : Text) → has_text a t ≡ has_text b t) → (us : List NamedUnit) → kept_units a us ≡ kept_units b us
@@ -126,15 +151,6 @@ same_tests a b h (u ∷ us) = ap (λ c. kept_before c u (kept_units a us)) (same
     same (InitializerUnit target k) = refl
     same (PoolInitializerUnit pool name k) = refl
     same (ProgramUnit k) = refl
-
-pub both_ways : (a b : List Text) → ((t : Text) → Has a t → Has b t) → ((t : Text) → Has b t → Has a t) → (t : Text) → has_text a t ≡ has_text b t
-both_ways a b f g t = by (has_text a t) refl (has_text b t) refl
-  where
-    by : (c : Bool) → has_text a t ≡ c → (d : Bool) → has_text b t ≡ d → c ≡ d
-    by true e true e' = refl
-    by false e false e' = refl
-    by true e false e' = let k = f t e in cc
-    by false e true e' = let k = g t e' in cc
 
 module _ (units : List NamedUnit) where
   least_of : IsLeast (methods_of units) (always_needed ++ texts_of units) (needed units)
@@ -172,9 +188,6 @@ module _ (base names : List Text) (units : List NamedUnit) (limits : RunLimits) 
   pub again_spells : Spells base names (kept_units need us)
   again_spells = subst (λ vs. Spells base names vs) (sym (kept_again need units)) spells
 
-  pub twice : Spells base names (shaken_units us)
-  twice = subst (λ vs. Spells base names vs) (sym (shaken_twice units)) spells
-
   pub closes : AllClosed need us
   closes = closed_again need units (closes_here units)
 
@@ -182,13 +195,30 @@ module _ (base names : List Text) (units : List NamedUnit) (limits : RunLimits) 
   abbrev pub one : Renaming
   one = x base names names need us own (sends_here units) closes spells again_spells
 
+  pub sends_all : (t : Text) → Sent t → Has names t
+  sends_all t s = spells.base_there t (own t s)
+
+  pub closes_all : AllClosed names us
+  closes_all = closed_in names us spells.all
+
+  pub all_stay : kept_units names us ≡ us
+  all_stay = kept_in names us spells.all
+
+  pub all_spells : Spells base names (kept_units names us)
+  all_spells = subst (λ vs. Spells base names vs) (sym all_stay) spells
+
   abbrev pub other : Renaming
-  other = x base names names (every us) us own (sends_every us) (every_closed us us (λ t h. h)) spells (again us base names names limits own twice spells)
+  other = x base names names names us own sends_all closes_all spells all_spells
 
   one_is : IsRenamed one q (whole need names names us (symbol base names names need us own (sends_here units) closes spells again_spells) limits)
   one_is =
       subst (λ vs. IsRenamed one (program_of names vs limits) (whole need names names us (symbol base names names need us own (sends_here units) closes spells again_spells) limits)) (kept_again need units)
       (renamed base names names need us own (sends_here units) closes spells again_spells limits)
+
+  other_is : IsRenamed other q (whole names names names us (symbol base names names names us own sends_all closes_all spells all_spells) limits)
+  other_is =
+      subst (λ vs. IsRenamed other (program_of names vs limits) (whole names names names us (symbol base names names names us own sends_all closes_all spells all_spells) limits)) all_stay
+      (renamed base names names names us own sends_all closes_all spells all_spells limits)
 
   -- each reached state is renamed alike by both
   pub held : (k : ℕ) → ren_top one (top_iter (scoped q) q k (opened_run (scoped q) q)) ≡ ren_top other (top_iter (scoped q) q k (opened_run (scoped q) q))
@@ -196,9 +226,8 @@ module _ (base names : List Text) (units : List NamedUnit) (limits : RunLimits) 
       let ok = programs_are_compilable names us limits in
       let known = programs_know_literals names us limits in
       let w = whole need names names us (λ n. n) limits in
-      let there = other_is us base names names limits own twice spells in
       sym (run_same one q w one_is (rows_alike one q w one_is) (rooms q ok known one w one_is (rows_alike one q w one_is)) k)
-      ∙ run_same other q w there (rows_alike other q w there) (rooms q ok known other w there (rows_alike other q w there)) k
+      ∙ run_same other q w other_is (rows_alike other q w other_is) (rooms q ok known other w other_is (rows_alike other q w other_is)) k
 
 -- a number that both rename alike is needed, where every text is needed for the other
 pub alike_is_needed : (need all names : List Text) (n : ℕ) → n < length names → Has names (get_or names n []) → Has all (get_or names n []) → symbol_in need names names n ≡ symbol_in all names names n → Has need (get_or names n [])
@@ -225,3 +254,10 @@ alike_is_needed need all names n l there h e = by (has_text need (get_or names n
     by : (c : Bool) → has_text need t ≡ c → has_text need t ≡ true
     by true g = g
     by false g = g ∙ sym (at (nat_lt n (length names)) refl false g e)
+
+module _ (base names : List Text) (units : List NamedUnit) (limits : RunLimits) (own : (t : Text) → Sent t → Has base t) (spells : Spells base names (shaken_units units)) where
+  pub told_apart : (n : ℕ) → n < length names → (one base names units limits own spells).symbol n ≡ (other base names units limits own spells).symbol n → Has (needed units) (get_or names n [])
+  told_apart n l e =
+      let us = shaken_units units in
+      alike_is_needed (needed units) names names n l (has_at names n l) (has_at names n l)
+      (ap (λ ns. symbol_in (needed units) ns names n) (sym (names_are names (kept_units (needed units) us))) ∙ e ∙ ap (λ ns. symbol_in names ns names n) (names_are names (kept_units names us)))

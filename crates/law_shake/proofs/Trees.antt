@@ -1,13 +1,13 @@
 -- What is made of a tree under other counts and names is what is made of it, renamed.
-use Rattle.std.proofs.Common.{◌≡◌, ℕ, suc, ◌+◌, ◌<◌, List, [], ◌∷◌, ◌++◌, map, length, Some, None, Bool, true, false, nat_eq, refl, sym, ap, ◌∙◌, subst, arith, append_assoc, if◌then◌else◌}
+use Rattle.std.proofs.Common.{◌≡◌, ℕ, suc, ◌+◌, ◌<◌, List, [], ◌∷◌, ◌++◌, map, length, Some, None, Bool, true, false, refl, sym, ap, ◌∙◌, subst, arith, append_assoc, if◌then◌else◌}
 use Rattle.std.proofs.lemmas.List.{map-append, length-map, length-append}
 use Rattle.object_heap.specs.declared.value.Value.{Value}
 use Rattle.object_heap.specs.declared.value.Value.TheVariants.{Symbol, Object}
 use Rattle.object_heap.specs.Store.{Object as HeapObject}
-use Rattle.st_code.specs.Texts.{Text, same_text}
+use Rattle.st_code.specs.Texts.{Text}
 use Rattle.st_code.specs.Program.{Tree, Constant, Block, Trees, no_trees, more_trees, Messages, no_messages, more_messages, Statement, Plain, Return, InBlock, Body}
 use Rattle.st_code.specs.Named.{Literal, NilLiteral, TrueLiteral, FalseLiteral, IntegerLiteral, CharacterLiteral, StringLiteral, SymbolLiteral, ArrayLiteral, Literals, no_literals, more_literals, NamedPrimary, NameOf, SelfName, SuperName, LiteralOf, BlockOf, ParenOf, NamedOperand, OperandOf, NamedOperands, no_operands, more_operands, NamedMessages, none_sent, then_sent, NamedExpr, ExprOf, NamedStatements, no_statements, more_statements}
-use Rattle.st_code.specs.Resolved.{Made, plain_made, both, mapped, behind, Counts, Context, Receiver, ToTree, ToSuper, Chain, one_sent, is_one_sent, receiver_tree, cascaded, with_cascade, inside, body_made, captured_of, assigned, literal_made, literals_made, primary_made, chain_made, messages_made, args_made, operand_made, expr_made, statements_made, number_or_last, has_text, array_made, read_only}
+use Rattle.st_code.specs.Resolved.{Made, plain_made, both, mapped, behind, Counts, Context, Receiver, ToTree, ToSuper, Chain, one_sent, is_one_sent, receiver_tree, cascaded, with_cascade, inside, body_made, captured_of, assigned, literal_made, literals_made, primary_made, chain_made, messages_made, args_made, operand_made, expr_made, statements_made, number_or_last, array_made, read_only}
 use Rattle.law_shake.specs.Renaming.{Renaming, object, ren, rens, ren_object, ren_code, ren_tree, ren_trees, ren_messages, ren_statement}
 use Rattle.program_image.specs.Spelled.{literal_texts, literals_texts, primary_texts, operand_texts, operands_texts, messages_texts, expr_texts, statements_texts}
 use Rattle.law_shake.specs.Making.{ren_made, ren_receiver, ren_chain, ren_context, Agrees, Named}

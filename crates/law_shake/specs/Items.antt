@@ -5,8 +5,8 @@ use Rattle.object_heap.specs.declared.value.Value.TheVariants.{Nil, Class}
 use Rattle.object_heap.specs.Store.{Object as HeapObject}
 use Rattle.st_code.specs.Texts.{Text}
 use Rattle.st_code.specs.Program.{Kind, InMethod, InInitializer, Side, OfInstance, OfClass, Body, Statement, MethodRow, Initializer}
-use Rattle.st_code.specs.Named.{NamedBody, NamedMethod, NamedUnit, MethodUnit, ClassMethodUnit, InitializerUnit, PoolInitializerUnit, ProgramUnit, ClassUnit, GlobalUnit, PoolVariableUnit}
-use Rattle.st_code.specs.Resolved.{Names, GlobalName, PoolName, Made, has_text, number_or_last, class_in, place_in, body_made}
+use Rattle.st_code.specs.Named.{NamedBody, NamedMethod, NamedUnit, MethodUnit, ClassMethodUnit, InitializerUnit, PoolInitializerUnit, ProgramUnit}
+use Rattle.st_code.specs.Resolved.{Names, GlobalName, PoolName, Made, number_or_last, class_in, place_in, body_made}
 use Rattle.st_code.specs.Definitions.{Defined, or_zero, context, body_in}
 use Rattle.st_code.specs.BuiltIns.{undefined_object_class}
 use Rattle.st_shake.specs.Shaken.{is_kept}

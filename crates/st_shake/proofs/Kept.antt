@@ -16,7 +16,7 @@ before-push : (b : Bool) (u : Unit) (us vs : List Unit) → before_if b u us ++ 
 before-push true u us vs = refl
 before-push false u us vs = refl
 
-that-push : (test : Unit → Bool) (units : List Unit) (u : Unit) → units_that test (units ++ u ∷ []) ≡ units_that test units ++ before_if (test u) u []
+pub that-push : (test : Unit → Bool) (units : List Unit) (u : Unit) → units_that test (units ++ u ∷ []) ≡ units_that test units ++ before_if (test u) u []
 that-push test [] u = refl
 that-push test (x ∷ units) u = ap (before_if (test x) x) (that-push test units u) ∙ sym (before-push (test x) x (units_that test units) (before_if (test u) u []))
 

@@ -1,5 +1,5 @@
 -- What shaken files say of a run, and that they are readable.
-use Rattle.std.proofs.Common.{◌≡◌, ℕ, List, [], ◌∷◌, ◌++◌, drop, length, Option, Some, None, Bool, true, false, refl, sym, ap, ◌∙◌, subst, if◌then◌else◌}
+use Rattle.std.proofs.Common.{◌≡◌, ℕ, List, [], ◌∷◌, drop, length, Option, Some, None, Bool, true, false, refl, sym, ap, ◌∙◌, subst, if◌then◌else◌}
 use Rattle.st_base.specs.Lexed.{lexed_of}
 use Rattle.st_base.specs.declared.tokens.LexFault.{LexFault}
 use Rattle.st_base.specs.declared.tokens.Token.{Token}
