@@ -6,4 +6,5 @@ pub mod Agreement
 pub mod Rows
 pub mod Reading
 pub mod Walking
+pub mod Finding
 pub mod Links

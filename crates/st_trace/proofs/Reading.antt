@@ -173,6 +173,14 @@ joined_words (c ∷ cs) = go (nat_eq c 32) refl (joined_words cs)
     go true q e = joined_behind (words_of cs) (some_words cs) ∙ ap (λ k. k ∷ joined (words_of cs)) (sym (eqb-true c 32 q)) ∙ ap (λ t. c ∷ t) e
     go false q e = joined_onto c (words_of cs) ∙ ap (λ t. c ∷ t) e
 
+no_line : (w a b : Text) (ws : List Text) → 1 ≤ length ws → None ≡ line_in (w ∷ a ∷ b ∷ ws)
+no_line w a b [] h = let none : ⊥ = omega (arith, h) in absurd none
+no_line w a b (c ∷ ws) h = refl
+
+-- four words are no line
+pub too_many : (w a b rest behind last : Text) → words_of rest ≡ a ∷ words_of behind → words_of behind ≡ b ∷ words_of last → None ≡ line_in (w ∷ words_of rest)
+too_many w a b rest behind last e f = no_line w a b (words_of last) (some_words last) ∙ ap (λ ws. line_in (w ∷ ws)) (sym (e ∙ ap (λ ws. a ∷ ws) f))
+
 -- ---- what is printed is read
 
 found_one : (w : Text) (n : ℕ) (e : Event) → n < 2 ^ 64 → Spaceless w → line_in (w ∷ decimal n ∷ []) ≡ told_by (with_number (number_in (decimal n)) (numbered_in w)) → numbered_in w n ≡ Some e → line_in (words_of (w ++ (32 ∷ decimal n))) ≡ Some (Tells e)

@@ -4,8 +4,8 @@ ghost use Rattle.st_trace.specs.Events.{event_of};
 ghost use Rattle.st_trace.specs.Automaton.{accepts, first_auditor, is_closed};
 
 use crate::auditor::{Kept, Mode, accept};
-use st_contexts::Event;
 use st_base::OutOfMemory;
+use st_contexts::Event;
 use std::alloc::Global;
 use std::marker::Model;
 

@@ -10,8 +10,8 @@ ghost use Rattle.st_trace.specs.Opened.{kept, place, first_place, Judges, Answer
 
 use crate::audited::Auditor;
 use crate::line::{Line, StopWord};
-use crate::words::read_line;
 use crate::start::LineStart;
+use crate::words::read_line;
 use memchr::memchr;
 use st_base::{OutOfMemory, Source};
 use std::alloc::Global;
@@ -80,7 +80,7 @@ impl OpenAudit {
     ghost use Rattle.std.specs.Prelude.{◌≡◌};
 
     fn new(alloc: Global) -> Result<OpenAudit, OutOfMemory>
-        ensures { IfOk result (λ a. a ≡ first_place first_auditor) }
+        ensures { IfOk result (λ a. a ≡ first_place) }
     {
         Ok(OpenAudit {
             auditor: Auditor::new(alloc),
@@ -248,20 +248,13 @@ fn judge_taken(audit: &mut OpenAudit, bytes: &[u8]) -> Option<AuditAnswer>
     ensures room { result ≡ None → audit.new.room < audit.old.room }
 {
     if audit.room() == 0 {
-        return Some(AuditAnswer::Refused(
-            audit.line(),
-            AuditReason::InputTooLong,
-        ));
+        return Some(AuditAnswer::Refused(audit.line(), AuditReason::InputTooLong));
     }
     judge(audit, bytes)
 }
 
 // Takes more bytes, and judges them.
-fn turn<S: Source>(
-    audit: &mut OpenAudit,
-    buffer: &mut [u8],
-    source: &mut S,
-) -> Option<AuditAnswer>
+fn turn<S: Source>(audit: &mut OpenAudit, buffer: &mut [u8], source: &mut S) -> Option<AuditAnswer>
     requires { length buffer.old ≡ PIECE }
     ensures buffer { length buffer.new ≡ PIECE }
     ensures turns { Turns audit.old (S.left source.old) result audit.new (S.left source.new) }

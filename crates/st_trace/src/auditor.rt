@@ -6,9 +6,9 @@ ghost use Rattle.st_trace.specs.Automaton.{begun, searches, turn_inside as turn_
 ghost use Rattle.st_rules.specs.Events.{Search as SearchFor, Ask, Default, Handle, Known};
 ghost use Rattle.st_trace.specs.Events.{event_of};
 
-use st_contexts::Event;
 use crate::stack::{Item, Kind, Search, first_entry, inside, turn_inside};
 use st_base::OutOfMemory;
+use st_contexts::Event;
 
 /// What may come.
 #[derive(Clone, Copy, Debug, PartialEq, Eq)]

@@ -2,14 +2,14 @@
 // as bytes, and whether it is disciplined, or its first line that can't stand and why, comes out.
 #![tactic(auto)]
 
-mod auditing;
 mod audited;
+mod auditing;
 mod auditor;
 mod law;
 mod line;
-mod words;
 mod stack;
 mod start;
+mod words;
 
 pub use auditing::{AuditAnswer, AuditReason, audit};
 pub use law::{

@@ -1,5 +1,5 @@
 // How the bytes of a line are read.
-ghost use Rattle.std.specs.Prelude.{◌≡◌, ◌∷◌, Some, None, option_map};
+ghost use Rattle.std.specs.Prelude.{◌≡◌, ◌∷◌, [], Some, None, option_map};
 ghost use Rattle.st_trace.specs.Events.{event_of, line_of};
 ghost use Rattle.st_trace.specs.Reading.{judged_in, known_in, line_in, number_in, numbered_in, read_line, stop_in, told_by, twice_in, value_behind, with_digit, with_number, words_behind, words_of};
 
@@ -71,63 +71,99 @@ fn known_in(word: &[u8]) -> Option<Line>
 fn stop_in(word: &[u8]) -> Option<StopWord>
     ensures { option_map (λ w. line_of (Line.Stops w)) result ≡ stop_in word.now }
 {
-    match word {
-        b"done" => Some(StopWord::Done),
-        b"unhandled" => Some(StopWord::Unhandled),
-        b"steps" => Some(StopWord::Steps),
-        b"depth" => Some(StopWord::Depth),
-        b"cells" => Some(StopWord::Cells),
-        b"integer" => Some(StopWord::Integer),
-        _ => None,
+    if word == b"done".as_slice() {
+        return Some(StopWord::Done);
     }
+    if word == b"unhandled".as_slice() {
+        return Some(StopWord::Unhandled);
+    }
+    if word == b"steps".as_slice() {
+        return Some(StopWord::Steps);
+    }
+    if word == b"depth".as_slice() {
+        return Some(StopWord::Depth);
+    }
+    if word == b"cells".as_slice() {
+        return Some(StopWord::Cells);
+    }
+    if word == b"integer".as_slice() {
+        return Some(StopWord::Integer);
+    }
+    None
 }
 
 // The event with this word and number.
 fn numbered_in(word: &[u8], number: u64) -> Option<Event>
     ensures { option_map event_of result ≡ numbered_in word.now number }
 {
-    match word {
-        b"protect" => Some(Event::Protect(number)),
-        b"ensure" => Some(Event::Ensure(number)),
-        b"curtail" => Some(Event::Curtail(number)),
-        b"signal" => Some(Event::Signal(number)),
-        b"outer" => Some(Event::Outer(number)),
-        b"search" => Some(Event::Search(number)),
-        b"default" => Some(Event::Default(number)),
-        b"action" => Some(Event::Action(number)),
-        b"again" => Some(Event::Again(number)),
-        b"end" => Some(Event::End { number, cut: false }),
-        b"cut" => Some(Event::End { number, cut: true }),
-        _ => None,
+    if word == b"protect".as_slice() {
+        return Some(Event::Protect(number));
     }
+    if word == b"ensure".as_slice() {
+        return Some(Event::Ensure(number));
+    }
+    if word == b"curtail".as_slice() {
+        return Some(Event::Curtail(number));
+    }
+    if word == b"signal".as_slice() {
+        return Some(Event::Signal(number));
+    }
+    if word == b"outer".as_slice() {
+        return Some(Event::Outer(number));
+    }
+    if word == b"search".as_slice() {
+        return Some(Event::Search(number));
+    }
+    if word == b"default".as_slice() {
+        return Some(Event::Default(number));
+    }
+    if word == b"action".as_slice() {
+        return Some(Event::Action(number));
+    }
+    if word == b"again".as_slice() {
+        return Some(Event::Again(number));
+    }
+    if word == b"end".as_slice() {
+        return Some(Event::End { number, cut: false });
+    }
+    if word == b"cut".as_slice() {
+        return Some(Event::End { number, cut: true });
+    }
+    None
 }
 
 fn judged_in(entry: u64, word: &[u8]) -> Option<Event>
     ensures { option_map event_of result ≡ judged_in entry word.now }
 {
-    match word {
-        b"yes" => Some(Event::Tried { entry, fits: true }),
-        b"no" => Some(Event::Tried { entry, fits: false }),
-        _ => None,
+    if word == b"yes".as_slice() {
+        return Some(Event::Tried { entry, fits: true });
     }
+    if word == b"no".as_slice() {
+        return Some(Event::Tried { entry, fits: false });
+    }
+    None
 }
 
 // The event with this word, number and other word.
 fn twice_in(word: &[u8], number: u64, other: &[u8]) -> Option<Event>
     ensures { option_map event_of result ≡ twice_in word.now number other.now }
 {
-    match word {
-        b"tried" => judged_in(number, other),
-        b"handle" => Some(Event::Handle {
+    if word == b"tried".as_slice() {
+        return judged_in(number, other);
+    }
+    if word == b"handle".as_slice() {
+        return Some(Event::Handle {
             turn: number,
             entry: number_of(other)?,
-        }),
-        b"ask" => Some(Event::Ask {
+        });
+    }
+    if word == b"ask".as_slice() {
+        return Some(Event::Ask {
             wait: number,
             entry: number_of(other)?,
-        }),
-        _ => None,
+        });
     }
+    None
 }
 
 // The line of two words.
@@ -148,6 +184,7 @@ fn line_of_three(word: &[u8], number: &[u8], other: &[u8]) -> Option<Line>
 }
 
 // The line of a word and what stands behind it.
+#[tactic(auto, using(crate::proofs::Reading::too_many))]
 fn line_behind(word: &[u8], rest: &[u8]) -> Option<Line>
     ensures { option_map line_of result ≡ line_in (word.now ∷ words_of rest.now) }
 {
@@ -165,6 +202,7 @@ fn line_behind(word: &[u8], rest: &[u8]) -> Option<Line>
 }
 
 /// The line that these bytes are, without its byte 10.
+#[tactic(auto, unfolding(crate::specs::Reading::read_line))]
 pub(crate) fn read_line(bytes: &[u8]) -> Option<Line>
     ensures { option_map line_of result ≡ read_line bytes.now }
 {
