@@ -7,4 +7,5 @@ pub mod Rows
 pub mod Reading
 pub mod Walking
 pub mod Finding
+pub mod Opening
 pub mod Links

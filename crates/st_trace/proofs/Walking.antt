@@ -346,7 +346,7 @@ endless_first c b h = go (nat_eq c 10) refl h
     go true q m = clash m
     go false q m = (q, m)
 
-body_walk : (b rest : Text) (s : Standing) (line room : ℕ) (so_far : Text) → no_end b ≡ true → length b ≤ room → audit_from (b ++ rest) s line room so_far ≡ audit_from rest s line (room - length b) (so_far ++ b)
+pub body_walk : (b rest : Text) (s : Standing) (line room : ℕ) (so_far : Text) → no_end b ≡ true → length b ≤ room → audit_from (b ++ rest) s line room so_far ≡ audit_from rest s line (room - length b) (so_far ++ b)
 body_walk [] rest s line room so_far h l =
     let e : room ≡ room - 0 = omega arith in
     ap (λ r. audit_from rest s line r so_far) e ∙ ap (audit_from rest s line (room - 0)) (sym (append-nil so_far))

@@ -35,18 +35,13 @@ kept bytes = take 49 bytes
 unfoldable pub answer_at : Place → Text → AuditAnswer
 answer_at p rest = audit_from rest p.standing p.line p.room p.so_far
 
--- these bytes lead from place to place, or to an answer, whatever comes behind them; for want of memory nothing is known
+-- these bytes lead from place to place, or to a refusal, whatever comes behind them; for want of memory nothing is known
 abbrev pub Judges : Place → Text → Option AuditAnswer → Place → Type 0
 Judges old bytes None new = (rest : Text) → answer_at old (bytes ++ rest) ≡ answer_at new rest
-Judges old bytes (Some (answer.Disciplined n)) new = (rest : Text) → answer_at old (bytes ++ rest) ≡ answer.Disciplined n
+Judges old bytes (Some (answer.Disciplined n)) new = ⊥
 Judges old bytes (Some (answer.Refused n why)) new = (rest : Text) → answer_at old (bytes ++ rest) ≡ answer.Refused n why
 Judges old bytes (Some answer.ReadFault) new = ⊥
 Judges old bytes (Some answer.OutOfMemory) new = Unit {0}
-
--- bytes judge no line, or lead to no end of the input
-abbrev pub IsRefusal : Option AuditAnswer → Type 0
-IsRefusal (Some (answer.Disciplined n)) = ⊥
-IsRefusal _ = Unit {0}
 
 -- what was taken of a source leads from place to place
 pub record Moves (old : Place) (left : Option Text) (new : Place) (now : Option Text) : Type 0 where

@@ -2,9 +2,9 @@
 use Rattle.std.proofs.Common.{◌≡◌, ◌∙◌, ap, sym, length, nat_eq, vec_len, arith}
 use Rattle.st_trace.specs.Automaton as automaton
 use Rattle.st_trace.proofs.Links.{closed_is}
-use Rattle.st_trace.proofs.audit.Auditor.is_closed.Goals as goal
+use Rattle.st_trace.proofs.audited.Auditor.is_closed.Goals as goal
 
--- src/audit.rt:52:5
+-- src/audited.rt:52:5
 pub returns : goal.returns
 returns c =
     let size : vec_len c.self.inside.kept.items ≡ length c.self.inside.kept.items.items = omega (arith, c.self.inside.kept.items.ok.0) in
