@@ -1,10 +1,9 @@
 -- The auditor accepts exactly the disciplined lists.
 use Rattle.std.proofs.Common.{◌≡◌, ℕ, List, [], ◌∷◌, ◌++◌, Option, Some, None, is_some, true, false, refl, sym, ap, ◌∙◌, arith, le-leb}
-use Rattle.st_rules.specs.Events.{Event}
 use Rattle.st_trace.specs.Lines.{Line, Tells, Stops}
 use Rattle.st_trace.specs.declared.line.StopWord.{StopWord}
 use Rattle.st_trace.specs.declared.line.StopWord.TheVariants.{Done, Unhandled, Steps, Depth, Cells, Integer}
-use Rattle.st_trace.specs.Automaton.{Item, Mode, Calm, Auditor, auditor, first_auditor, by_mode, accepts_by, accepts_all, is_closed, may_stop, stops_by}
+use Rattle.st_trace.specs.Automaton.{Item, Mode, Calm, Auditor, auditor, first_auditor, by_mode, accepts_by, accepts_all, is_closed, may_stop}
 use Rattle.st_trace.specs.Disciplined.{Past, meets, none_open, meets_stop, AllMeet, Disciplined}
 use Rattle.st_trace.specs.Auditing.{AuditorAgrees, stands_by, StandsByAuditor}
 use Rattle.st_trace.proofs.Agreeing.{lines, Agree}

@@ -1,5 +1,5 @@
 -- Where an audit stands, and what the bytes that come lead to.
-use Rattle.std.proofs.Common.{◌≡◌, ◌⊎◌, inl, inr, ℕ, zero, suc, ◌+◌, ◌-◌, ◌^◌, ◌<◌, ◌≤◌, Bool, true, false, List, [], ◌∷◌, ◌++◌, append_assoc, append-nil, length, take, drop, decimal, codes, Option, Some, None, refl, sym, ap, ◌∙◌, subst, arith, nat_eq, nat_lt, ltb-true, if◌then◌else◌, IfSome}
+use Rattle.std.proofs.Common.{◌≡◌, min, ℕ, zero, suc, ◌+◌, ◌-◌, ◌^◌, ◌<◌, ◌≤◌, Bool, true, false, List, [], ◌∷◌, ◌++◌, append_assoc, append-nil, length, take, drop, decimal, codes, Option, Some, None, refl, sym, ap, ◌∙◌, subst, arith, nat_eq, nat_lt, ltb-true, if◌then◌else◌, IfSome}
 use Rattle.std.proofs.Math.Seq.{take-length}
 use Rattle.std.proofs.lemmas.List.{length-append, length-take-le, take-append-drop}
 use Rattle.std.proofs.lemmas.Fmt.{length-decimal-le}
@@ -22,8 +22,9 @@ use Rattle.st_trace.specs.declared.auditing.AuditAnswer.TheVariants as answer
 use Rattle.st_trace.specs.declared.auditing.AuditReason.{AuditReason}
 use Rattle.st_trace.specs.declared.auditing.AuditReason.TheVariants as reason
 use Rattle.st_trace.proofs.Reading.{reads_lines}
-use Rattle.st_trace.proofs.Walking.{body_walk, audits_each, audits_once}
-use Rattle.st_trace.proofs.Finding.{take_rest}
+use Rattle.st_trace.proofs.Walking.{judged_by, read_by, byte_by, body_walk, audits_each, audits_once}
+use Rattle.memchr.specs.Find.{Nowhere, NoneBefore, Passes, is_byte}
+use Rattle.st_trace.proofs.Finding.{take_rest, line_some, line_none}
 
 -- ---- long lines are none
 
@@ -111,25 +112,8 @@ kept_same [] s line room t = kept_ends s line t
 kept_same (c ∷ cs) s line zero t = refl
 kept_same (c ∷ cs) s line (suc left) t = go (nat_eq c 10) (λ u. kept_same cs s line left u)
   where
-    go : (b : Bool) → ((u : Text) → audit_from cs s line left (kept u) ≡ audit_from cs s line left u)
-        → elim b [
-          | false ↦ audit_from cs s line left (kept t ++ c ∷ [])
-          | true ↦ elim (read_line (kept t)) [
-            | None ↦ answer.Refused line reason.Line
-            | Some l ↦ elim (next_of s l) [ None ↦ answer.Refused line reason.Order | Some s' ↦ audit_from cs s' (line + 1) left [] ]
-          ]
-        ]
-        ≡ elim b [
-          | false ↦ audit_from cs s line left (t ++ c ∷ [])
-          | true ↦ elim (read_line t) [
-            | None ↦ answer.Refused line reason.Line
-            | Some l ↦ elim (next_of s l) [ None ↦ answer.Refused line reason.Order | Some s' ↦ audit_from cs s' (line + 1) left [] ]
-          ]
-        ]
-    go true on = ap (λ o. elim o [
-      | None ↦ answer.Refused line reason.Line
-      | Some l ↦ elim (next_of s l) [ None ↦ answer.Refused line reason.Order | Some s' ↦ audit_from cs s' (line + 1) left [] ]
-    ]) (kept_reads t)
+    go : (b : Bool) → ((u : Text) → audit_from cs s line left (kept u) ≡ audit_from cs s line left u) → byte_by b c cs s line left (kept t) ≡ byte_by b c cs s line left t
+    go true on = ap (λ o. read_by o cs s line left) (kept_reads t)
     go false on = sym (on (kept t ++ c ∷ [])) ∙ ap (audit_from cs s line left) (take_twice 49 t (c ∷ [])) ∙ on (t ++ c ∷ [])
 
 -- ---- bytes
@@ -140,25 +124,9 @@ unfolding answer_at
 keeps_on p b h l rest = body_walk b rest p.standing p.line p.room p.so_far h l ∙ sym (kept_same rest p.standing p.line (p.room - length b) (p.so_far ++ b))
 
 -- a byte 10
-judged_by : Option Standing → Text → (line left : ℕ) → AuditAnswer
-judged_by None rest line left = answer.Refused line reason.Order
-judged_by (Some s) rest line left = audit_from rest s (line + 1) left []
-
-read_by : Option Line → Text → Standing → (line left : ℕ) → AuditAnswer
-read_by None rest s line left = answer.Refused line reason.Line
-read_by (Some l) rest s line left = judged_by (next_of s l) rest line left
-
 at_ten : (rest : Text) (s : Standing) (line room : ℕ) (so_far : Text) → 0 < room → audit_from (10 ∷ rest) s line room so_far ≡ read_by (read_line so_far) rest s line (room - 1)
 at_ten rest s line zero so_far h = let none : ⊥ = omega (arith, h) in absurd none
-at_ten rest s line (suc left) so_far h = go (read_line so_far)
-  where
-    go : (o : Option Line) → elim o [ None ↦ answer.Refused line reason.Line | Some l ↦ elim (next_of s l) [ None ↦ answer.Refused line reason.Order | Some s' ↦ audit_from rest s' (line + 1) left [] ] ] ≡ read_by o rest s line left
-    go None = refl
-    go (Some l) = step (next_of s l)
-      where
-        step : (o : Option Standing) → elim o [ None ↦ answer.Refused line reason.Order | Some s' ↦ audit_from rest s' (line + 1) left [] ] ≡ judged_by o rest line left
-        step None = refl
-        step (Some s') = refl
+at_ten rest s line (suc left) so_far h = let e : suc left - 1 ≡ left = omega arith in ap (read_by (read_line so_far) rest s line) (sym e)
 
 module _ (p new : Place) (h : 0 < p.room) where
   pub whole_none : read_line p.so_far ≡ None → Judges p (10 ∷ []) (Some (answer.Refused p.line reason.Line)) new
@@ -175,9 +143,9 @@ module _ (p new : Place) (h : 0 < p.room) where
     whole_on s q rest = at_ten rest p.standing p.line p.room p.so_far h ∙ ap (λ o. read_by o rest p.standing p.line (p.room - 1)) e ∙ ap (λ o. judged_by o rest p.line (p.room - 1)) q
 
 pub judges_judges : (p q r : Place) (b c : Text) (a : Option AuditAnswer) → Judges p b None q → Judges q c a r → Judges p (b ++ c) a r
-judges_judges p q r b c None one two rest = ap (answer_at p) (append_assoc b c rest) ∙ one (c ++ rest) ∙ two rest
+judges_judges p q r b c None one two = λ rest. ap (answer_at p) (append_assoc b c rest) ∙ one (c ++ rest) ∙ two rest
 judges_judges p q r b c (Some (answer.Disciplined n)) one two = absurd two
-judges_judges p q r b c (Some (answer.Refused n why)) one two rest = ap (answer_at p) (append_assoc b c rest) ∙ one (c ++ rest) ∙ two rest
+judges_judges p q r b c (Some (answer.Refused n why)) one two = λ rest. ap (answer_at p) (append_assoc b c rest) ∙ one (c ++ rest) ∙ two rest
 judges_judges p q r b c (Some answer.ReadFault) one two = absurd two
 judges_judges p q r b c (Some answer.OutOfMemory) one two = tt
 
@@ -193,7 +161,7 @@ judges_all p r bytes at a l h = subst (λ t. Judges p t a r) (take_all at bytes 
 -- a refusal by the first bytes stands
 pub judges_on : (p r : Place) (bytes : Text) (at : ℕ) (a : AuditAnswer) → Judges p (take at bytes) (Some a) r → Judges p bytes (Some a) r
 judges_on p r bytes at (answer.Disciplined n) h = absurd h
-judges_on p r bytes at (answer.Refused n why) h rest =
+judges_on p r bytes at (answer.Refused n why) h = λ rest.
     ap (answer_at p) (ap (λ t. t ++ rest) (sym (take-append-drop at bytes)) ∙ append_assoc (take at bytes) (drop at bytes) rest) ∙ h (drop at bytes ++ rest)
 judges_on p r bytes at answer.ReadFault h = absurd h
 judges_on p r bytes at answer.OutOfMemory h = tt
@@ -201,7 +169,7 @@ judges_on p r bytes at answer.OutOfMemory h = tt
 pub too_long : (p r : Place) (bytes : Text) → 0 < length bytes → p.room ≡ 0 → Judges p bytes (Some (answer.Refused p.line reason.InputTooLong)) r
 unfolding answer_at
 too_long p r [] h e = let none : ⊥ = omega (arith, h) in absurd none
-too_long p r (c ∷ cs) h e rest = ap (λ room. audit_from (c ∷ (cs ++ rest)) p.standing p.line room p.so_far) e
+too_long p r (c ∷ cs) h e = λ rest. ap (λ room. audit_from (c ∷ (cs ++ rest)) p.standing p.line room p.so_far) e
 
 -- ---- sources
 
@@ -322,3 +290,55 @@ concludes_open left now (answer.Refused n why) h = tt
 concludes_open None now answer.ReadFault h = tt
 concludes_open (Some bytes) now answer.ReadFault h = record { taken = h.answers.taken; front = h.answers.front; unsettled = unsettled h.answers.taken h.place h.answers.same }
 concludes_open left now answer.OutOfMemory h = tt
+
+-- ---- for the functions
+
+module _ (p q r : Place) (l : Line) (h : 0 < p.room) (e : read_line p.so_far ≡ Some l) where
+  pub line_on : next_of p.standing l ≡ Some q.standing → q.line ≡ p.line → q.room ≡ p.room → r ≡ place q.standing (q.line + 1) (q.room - 1) [] → Judges p (10 ∷ []) None r
+  line_on s a b same =
+      let there : place q.standing (p.line + 1) (p.room - 1) [] ≡ r = ap (λ n. place q.standing (n + 1) (p.room - 1) []) (sym a) ∙ ap (λ n. place q.standing (q.line + 1) (n - 1) []) (sym b) ∙ sym same in
+      subst (λ x. Judges p (10 ∷ []) None x) there (whole_on p r h l e q.standing s)
+
+  pub line_refused : (n : ℕ) → n ≡ p.line → next_of p.standing l ≡ None → Judges p (10 ∷ []) (Some (answer.Refused n reason.Order)) r
+  line_refused n a s = subst (λ m. Judges p (10 ∷ []) (Some (answer.Refused m reason.Order)) r) (sym a) (whole_order p r h l e s)
+
+pub whole_refused : (p r : Place) (n : ℕ) → 0 < p.room → n ≡ p.line → read_line p.so_far ≡ None → Judges p (10 ∷ []) (Some (answer.Refused n reason.Line)) r
+whole_refused p r n h a e = subst (λ m. Judges p (10 ∷ []) (Some (answer.Refused m reason.Line)) r) (sym a) (whole_none p r h e)
+
+pub some_kept : (p r : Place) (bytes : Text) → Nowhere (Passes (is_byte 10) bytes) 0 (length bytes) → length bytes ≤ p.room → r ≡ place p.standing p.line (p.room - length bytes) (kept (p.so_far ++ bytes)) → Judges p (take (length bytes) bytes) None r
+some_kept p r bytes h l e =
+    subst (λ t. Judges p t None r) (sym (take-length bytes)) (subst (λ x. Judges p bytes None x) (sym e) (keeps_on p bytes (line_none bytes h) l))
+
+pub some_whole : (p q r : Place) (bytes : Text) (end : ℕ) (a : Option AuditAnswer) → NoneBefore (Passes (is_byte 10) bytes) 0 (length bytes) end × Passes (is_byte 10) bytes end → length bytes ≤ p.room
+    → q ≡ place p.standing p.line (p.room - length (take end bytes)) (kept (p.so_far ++ take end bytes)) → Judges q (10 ∷ []) a r → Judges p (take (end + 1) bytes) a r
+some_whole p q r bytes end a h l e on =
+    let f = line_some bytes end h in
+    let n : length (take end bytes) ≡ end = length-take-le end bytes (omega (arith, h.0.high)) in
+    let one : Judges p (take end bytes) None q = subst (λ x. Judges p (take end bytes) None x) (sym e) (keeps_on p (take end bytes) f.0 (omega (arith, n, h.0.high, l))) in
+    subst (λ t. Judges p t a r) (sym f.1) (judges_judges p q r (take end bytes) (10 ∷ []) a one on)
+
+pub beyond : (p r : Place) (bytes : Text) (n : ℕ) → 0 < length bytes → p.room ≡ 0 → n ≡ p.line → Judges p bytes (Some (answer.Refused n reason.InputTooLong)) r
+beyond p r bytes n h e a = subst (λ m. Judges p bytes (Some (answer.Refused m reason.InputTooLong)) r) (sym a) (too_long p r bytes h e)
+
+pub finished : (p : Place) (left now : Option Text) (buffer : Text) (n : ℕ) (a : AuditAnswer) → n ≡ 0 → Gave left now n buffer → a ≡ at_end p.standing p.line p.so_far → Answers p left a p now
+finished p left now buffer n a e g same = subst (λ x. Answers p left x p now) (sym same) (finishes p left now buffer (subst (λ m. Gave left now m buffer) e g))
+
+take_min : (t : Text) (k : ℕ) → take (min (length t) k) t ≡ take k t
+take_min t k = go (nat_lt k (length t)) refl
+  where
+    go : (b : Bool) → nat_lt k (length t) ≡ b → take (min (length t) k) t ≡ take k t
+    go true q = let l : k < length t = ltb-true k (length t) q in let m : min (length t) k ≡ k = omega (arith, l) in ap (λ n. take n t) m
+    go false q =
+        let l : length t ≤ k = grind (arith, q) in
+        let m : min (length t) k ≡ length t = omega (arith, l) in
+        ap (λ n. take n t) m ∙ take-length t ∙ sym (take_all k t l)
+
+take_over : (k : ℕ) (old run : Text) → length old ≤ k → old ++ take (k - length old) run ≡ take k (old ++ run)
+take_over k [] run l = let e : k - 0 ≡ k = omega arith in ap (λ n. take n run) e
+take_over zero (c ∷ old) run l = let none : ⊥ = omega (arith, l) in absurd none
+take_over (suc k) (c ∷ old) run l = let e : suc k - length (c ∷ old) ≡ k - length old = omega arith in ap (λ n. c ∷ (old ++ take n run)) e ∙ ap (λ t. c ∷ t) (take_over k old run (omega (arith, l)))
+
+-- as many are added as there is room for
+pub kept_added : (old run new : Text) (room count : ℕ) → length old ≤ 49 → room ≡ 49 - length old → count ≡ min (length run) room → new ≡ old ++ take count run → new ≡ take 49 (old ++ run)
+kept_added old run new room count l a b e =
+    e ∙ ap (λ n. old ++ take n run) b ∙ ap (λ n. old ++ take (min (length run) n) run) a ∙ ap (λ t. old ++ t) (take_min run (49 - length old)) ∙ take_over 49 old run l

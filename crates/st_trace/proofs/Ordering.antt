@@ -1,5 +1,5 @@
 -- The numbers that are open fall outwards, and a turn that is open is so behind one more.
-use Rattle.std.proofs.Common.{◌≡◌, ℕ, ◌<◌, ◌≤◌, List, [], ◌∷◌, Option, Some, Bool, true, false, ap, ◌∙◌, arith, nat_eq, if◌then◌else◌, eq-eqb, ne_eqb, eqb-true, refl}
+use Rattle.std.proofs.Common.{◌≡◌, ℕ, ◌<◌, ◌≤◌, List, [], ◌∷◌, Some, Bool, true, false, ap, ◌∙◌, arith, nat_eq, if◌then◌else◌, eq-eqb, ne_eqb, eqb-true, refl}
 use Rattle.st_trace.specs.Automaton.{Item, handled_by, turn_inside}
 
 -- the numbers fall outwards, from below a bound

@@ -1,8 +1,8 @@
 -- Lines are read as they are printed.
-use Rattle.std.proofs.Common.{◌≡◌, ℕ, zero, suc, ◌+◌, ◌-◌, ◌*◌, ◌/◌, ◌%◌, ◌^◌, ◌<◌, ◌≤◌, ◌&&◌, not, Bool, true, false, List, [], ◌∷◌, ◌++◌, length, get_or, Option, Some, None, refl, sym, ap, ◌∙◌, subst, arith, rules, nat_eq, nat_le, nat_lt, codes, decimal, if◌then◌else◌, ne_eqb, eqb-true, lt-ltb, ltb-true}
+use Rattle.std.proofs.Common.{◌≡◌, ℕ, zero, suc, ◌+◌, ◌-◌, ◌*◌, ◌/◌, ◌%◌, ◌^◌, ◌<◌, ◌≤◌, ◌&&◌, not, Bool, true, false, List, [], ◌∷◌, ◌++◌, length, Option, Some, None, refl, sym, ap, ◌∙◌, subst, arith, rules, nat_eq, nat_le, nat_lt, codes, decimal, if◌then◌else◌, ne_eqb, eqb-true, lt-ltb, ltb-true}
 use Rattle.std.specs.Str.{bytes_eq, all_ascii_digits}
 use Rattle.std.specs.Char.{digit_value, is_ascii_digit}
-use Rattle.std.specs.Str.Parse.{AllDigits, digits_value}
+use Rattle.std.specs.Str.Parse.{AllDigits}
 use Rattle.std.proofs.lemmas.Fmt.{decimal_is_IsNumeral, decimal-digits_value, digits_decimal, digits_value-decimal, decimal_digit, decimal_by_steps}
 use Rattle.std.proofs.lemmas.Str.Parse.{IsNumeralModel, FoldsDigits, tells_all_ascii_digits, numerals_by_fold}
 use Rattle.std.proofs.lemmas.Slice.Eq.{bytes_eq-Decides}
@@ -11,7 +11,7 @@ use Rattle.st_rules.specs.Events.{Event, Protect, Ensure, Curtail, Signal, Outer
 use Rattle.st_trace.specs.declared.line.StopWord.TheVariants.{Done, Unhandled, Steps, Depth, Cells, Integer}
 use Rattle.st_trace.specs.Lines.{Line, Tells, Stops}
 use Rattle.st_trace.specs.Bytes.{event_text, line_body, EventFits, LineFits}
-use Rattle.st_trace.specs.Reading.{onto_first, words_of, with_digit, value_behind, is_plain, number_in, told_by, known_in, stop_in, numbered_in, with_number, judged_in, twice_in, line_in, read_line, ReadsLines}
+use Rattle.st_trace.specs.Reading.{onto_first, words_of, with_digit, value_behind, is_plain, number_in, told_by, stop_in, numbered_in, with_number, judged_in, twice_in, line_in, read_line, ReadsLines}
 
 clash : {A : Type 0} → false ≡ true → A
 clash e = let none : ⊥ = grind (arith, e) in absurd none

@@ -1,16 +1,15 @@
 -- The audit answers as it is to.
-use Rattle.std.proofs.Common.{◌≡◌, ◌↔◌, ◌⊎◌, inl, inr, ℕ, zero, suc, ◌+◌, ◌-◌, ◌<◌, ◌≤◌, Bool, true, false, List, [], ◌∷◌, ◌++◌, length, take, append_assoc, append-nil, Option, Some, None, is_some, refl, sym, ap, ◌∙◌, subst, arith, nat_eq, if◌then◌else◌, eqb-true, eq-eqb, ne_eqb}
+use Rattle.std.proofs.Common.{◌≡◌, ◌⊎◌, inl, inr, ℕ, zero, suc, ◌+◌, ◌-◌, ◌<◌, ◌≤◌, Bool, true, false, List, [], ◌∷◌, ◌++◌, length, take, append_assoc, append-nil, Option, Some, None, is_some, refl, sym, ap, ◌∙◌, subst, arith, nat_eq, if◌then◌else◌, eqb-true, eq-eqb, ne_eqb}
 use Rattle.std.proofs.lemmas.List.{length-append}
 use Rattle.std.specs.Char.{digit_value}
 use Rattle.std.specs.Str.Parse.{AllDigits}
 use Rattle.std.proofs.lemmas.Fmt.{decimal_is_IsNumeral}
-use Rattle.std.proofs.Common.{◌^◌, codes, decimal}
+use Rattle.std.proofs.Common.{◌^◌, decimal}
 use Rattle.st_code.specs.Texts.{Text}
-use Rattle.st_rules.specs.Events.{Event, Protect, Ensure, Curtail, Signal, Outer, Search, Tried, Handle, Default, Known, Action, Again, Ask, End}
+use Rattle.st_rules.specs.Events.{Protect, Ensure, Curtail, Signal, Outer, Search, Tried, Handle, Default, Known, Action, Again, Ask, End}
 use Rattle.st_trace.specs.Lines.{Line, Tells, Stops}
-use Rattle.st_trace.specs.declared.line.StopWord.{StopWord}
 use Rattle.st_trace.specs.declared.line.StopWord.TheVariants.{Done, Unhandled, Steps, Depth, Cells, Integer}
-use Rattle.st_trace.specs.Automaton.{Auditor, first_auditor, accepts, accepts_all, may_stop, stops_by}
+use Rattle.st_trace.specs.Automaton.{Auditor, first_auditor, accepts, accepts_all, may_stop}
 use Rattle.st_trace.specs.Disciplined.{Disciplined}
 use Rattle.st_trace.specs.Auditing.{Stands, stands_by}
 use Rattle.st_trace.specs.Bytes.{line_body, line_text, text_of, LineFits, AllFit, most_bytes, Behind, NextLine, no_end, EndsWithin, Audits}
@@ -327,13 +326,13 @@ audits_each input = audits input input (Going first_auditor) 1 most_bytes [] (re
 
 -- ---- no other answer
 
-abbrev judged_by : Option Standing → Text → (line left : ℕ) → AuditAnswer
+abbrev pub judged_by : Option Standing → Text → (line left : ℕ) → AuditAnswer
 judged_by o cs line left = elim o [ None ↦ answer.Refused line reason.Order | Some s' ↦ audit_from cs s' (line + 1) left [] ]
 
-abbrev read_by : Option Line → Text → Standing → (line left : ℕ) → AuditAnswer
+abbrev pub read_by : Option Line → Text → Standing → (line left : ℕ) → AuditAnswer
 read_by o cs s line left = elim o [ None ↦ answer.Refused line reason.Line | Some l ↦ judged_by (next_of s l) cs line left ]
 
-abbrev byte_by : Bool → ℕ → Text → Standing → (line left : ℕ) → Text → AuditAnswer
+abbrev pub byte_by : Bool → ℕ → Text → Standing → (line left : ℕ) → Text → AuditAnswer
 byte_by d c cs s line left so_far = elim d [ false ↦ audit_from cs s line left (so_far ++ c ∷ []) | true ↦ read_by (read_line so_far) cs s line left ]
 
 on_other : (c : ℕ) (cs : Text) (s : Standing) (line left : ℕ) (so_far : Text) → nat_eq c 10 ≡ false → audit_from (c ∷ cs) s line (suc left) so_far ≡ audit_from cs s line left (so_far ++ c ∷ [])

@@ -1,8 +1,7 @@
 -- An audit, byte by byte.
-use Rattle.std.specs.Prelude.{◌≡◌, ℕ, zero, suc, ◌+◌, ◌-◌, Bool, true, false, List, [], ◌∷◌, ◌++◌, Option, Some, None, nat_eq, if◌then◌else◌}
+use Rattle.std.specs.Prelude.{◌≡◌, ℕ, zero, suc, ◌+◌, ◌-◌, true, false, [], ◌∷◌, ◌++◌, Option, Some, None, nat_eq, if◌then◌else◌}
 use Rattle.st_code.specs.Texts.{Text}
 use Rattle.st_trace.specs.Lines.{Line, Tells, Stops}
-use Rattle.st_trace.specs.declared.line.StopWord.{StopWord}
 use Rattle.st_trace.specs.Automaton.{Auditor, first_auditor, accepts, may_stop}
 use Rattle.st_trace.specs.Bytes.{most_bytes, Audits}
 use Rattle.st_trace.specs.declared.auditing.AuditAnswer.{AuditAnswer}

@@ -1,7 +1,6 @@
 -- What is claimed of the auditor and of traces.
 use Rattle.std.specs.Prelude.{◌≡◌, ◌↔◌, Bool, true, false, List, [], ◌∷◌, ◌++◌, Option, Some, is_some}
 use Rattle.st_trace.specs.Lines.{Line, Tells, Stops}
-use Rattle.st_trace.specs.declared.line.StopWord.{StopWord}
 use Rattle.st_trace.specs.Automaton.{Auditor, first_auditor, accepts_by, accepts_all, stops_by}
 use Rattle.st_trace.specs.Disciplined.{Disciplined}
 
