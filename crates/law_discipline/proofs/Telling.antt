@@ -1,5 +1,5 @@
 -- What the auditor comes to behind one more event.
-use Rattle.std.proofs.Common.{◌≡◌, ℕ, ◌+◌, ◌≤◌, List, [], ◌∷◌, ◌++◌, Option, Some, Bool, refl, ap, ◌∙◌, subst, arith, if◌then◌else◌, le-leb}
+use Rattle.std.proofs.Common.{◌≡◌, ℕ, ◌+◌, ◌≤◌, List, [], ◌∷◌, ◌++◌, Option, Some, None, Bool, refl, ap, ◌∙◌, subst, arith, if◌then◌else◌, le-leb}
 use Rattle.st_rules.specs.Events.{Event, End}
 use Rattle.st_trace.specs.Automaton.{Kind, Item, Mode, Calm, Auditor, auditor, item, begun, ends, accepts, accepts_by, after, auditor_after}
 use Rattle.st_trace.proofs.Ordering.{Ordered, ordered_later, here}
