@@ -1,5 +1,5 @@
 -- Texts that are written in parts.
-use Rattle.std.proofs.Common.{◌≡◌, ℕ, List, [], ◌∷◌, ◌++◌, append_assoc, Option, Result, Ok, Err, refl, sym, ap, ◌∙◌, subst}
+use Rattle.std.proofs.Common.{◌≡◌, List, [], ◌∷◌, ◌++◌, append_assoc, Option, Result, refl, sym, ap, ◌∙◌, subst}
 use Rattle.std.proofs.lemmas.List.{append-nil}
 use Rattle.st_base.specs.Streams.{GainsPrefix}
 use Rattle.st_code.specs.Texts.{Text}
@@ -9,7 +9,7 @@ use Rattle.st_trace.specs.Bytes.{line_text, text_of}
 use Rattle.st_trace.specs.Lines.{Tells, Stops}
 use Rattle.st_trace.specs.Told.{trace_of}
 use Rattle.st_transcript.specs.Gained.{Gains}
-use Rattle.st_transcript.proofs.Gaining.{wrote_first, wrote_more, wrote_part, wrote_end, gains_as}
+use Rattle.st_transcript.proofs.Gaining.{wrote_first, wrote_more, wrote_part, wrote_end}
 use Rattle.std.specs.Io.KnownBytes.{append_known}
 use Rattle.st_tracer.specs.Traced.{events_text}
 
