@@ -3,3 +3,4 @@ pub mod OneOutcome
 pub mod RunLemmas
 pub mod SomeOutcome
 pub mod StatsLemmas
+pub mod TraceLemmas

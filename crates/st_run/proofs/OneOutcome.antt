@@ -15,6 +15,7 @@ use Rattle.st_machine_laws.proofs.Moments.{counts_add}
 use Rattle.st_words.specs.declared.command.Command.{Command}
 use Rattle.st_words.specs.declared.command.Task.{Task}
 use Rattle.st_words.specs.declared.command.Task.TheVariants as task
+use Rattle.st_tracer.specs.Traced.{trace_text}
 use Rattle.st_run.specs.Outcomes.{Outcome, program_for, transcript, summary, ended, IsOfRun, OfTask}
 use Rattle.st_run.specs.Commands.{OfRules, OfAnswer, OneOutcome, file_of}
 
@@ -71,6 +72,7 @@ one_of_task task.Check c us bytes o o' a b = a ∙ sym b
 one_of_task task.List c us bytes o o' a b = a ∙ sym b
 one_of_task task.Export c us bytes o o' a b = a ∙ sym b
 one_of_task task.Gen c us bytes o o' a b = one_of_run c us (summary us bytes) o o' a b
+one_of_task task.Trace c us bytes o o' a b = one_of_run c us trace_text o o' a b
 one_of_task task.Shake c us bytes o o' a b = a ∙ sym b
 
 one_of_rules : (c : Command) (us : List unit.Unit) (bytes : ℕ) (x : Option Break) (o o' : Outcome) → OfRules c us bytes x o → OfRules c us bytes x o' → o ≡ o'

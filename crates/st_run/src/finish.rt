@@ -15,6 +15,7 @@ ghost use Rattle.st_run.specs.Headline.{EndsBy, Finishes};
 use crate::generating::generate;
 use crate::report::{OUT_OF_MEMORY, USAGE, refusal};
 use crate::running::run;
+use crate::tracing::trace;
 use sif_export::export;
 use st_answers::{listing, ok_line};
 use st_base::{OutOfMemory, Place, Reason, Sink, put_all};
@@ -130,6 +131,7 @@ fn perform<K: Sink, E: Sink>(
         Task::List => write_made(listing(alloc, definition.units.as_slice()), out, report),
         Task::Export => write_text(out, &definition),
         Task::Gen => generate(alloc, command, bytes, definition, out, report),
+        Task::Trace => trace(alloc, command, definition, out, report),
         Task::Shake => write_shaken(alloc, &definition, out, report),
     }
 }

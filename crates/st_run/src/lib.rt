@@ -8,6 +8,7 @@ mod law;
 mod report;
 mod running;
 mod top;
+mod tracing;
 
 pub use finish::report_want_of_memory;
 pub use law::each_command_has_one_outcome;

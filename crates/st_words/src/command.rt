@@ -22,6 +22,8 @@ pub enum Task {
     Export,
     /// Runs it with generated lines behind it, and writes what that came to.
     Gen,
+    /// Runs it, and writes its events and how it stopped, a line each.
+    Trace,
     /// Writes the canonical text of what its run can reach by name.
     Shake,
 }
@@ -49,6 +51,7 @@ fn task_of(name: &str) -> Option<Task>
         "list" => Some(Task::List),
         "export" => Some(Task::Export),
         "gen" => Some(Task::Gen),
+        "trace" => Some(Task::Trace),
         "shake" => Some(Task::Shake),
         _ => None,
     }

@@ -29,6 +29,9 @@ returns-in-Export g c =
 pub returns-in-Gen : goal.returns-in-Gen
 returns-in-Gen g c = of_task task.Gen c.args.command c.args.definition.units c.args.bytes _ _ _ _ _ _ _ c.in-Gen.is c.generate.ensures
 
+pub returns-in-Trace : goal.returns-in-Trace
+returns-in-Trace g c = of_task task.Trace c.args.command c.args.definition.units c.args.bytes _ _ _ _ _ _ _ c.in-Trace.is c.trace.ensures
+
 pub returns-in-Shake : goal.returns-in-Shake
 returns-in-Shake g c =
     let us = c.args.definition.units in
