@@ -16,10 +16,13 @@ use Rattle.st_words.specs.declared.command.Command.{Command}
 use Rattle.st_words.specs.declared.command.Task.{Task}
 use Rattle.st_run.specs.Reports.{read_fault_line, memory_line}
 use Rattle.st_run.specs.Outcomes as Outcomes
-use Rattle.st_run.specs.Outcomes.{Outcome, refused, usage, OfTask, IsEnding, DoneBy}
-use Rattle.st_run.specs.Commands.{ForBytes, Reads, IsValid, IsValidFor, DoneStatus, Does, OfRules, behind, file_of}
+use Rattle.st_run.specs.Outcomes.{Outcome, refused, usage, audited, OfTask, IsEnding, DoneBy}
+use Rattle.st_words.specs.declared.command.Task.TheVariants as task
+use Rattle.st_trace.specs.declared.auditing.AuditAnswer.TheVariants as audit
+use Rattle.st_run.specs.Commands.{ForBytes, Reads, IsValid, IsValidFor, IsValidBy, DoneStatus, Does, OfInput, OfAnswer, OfRules, LeavesOpenBy, StaysOpen, ReadsProgram, behind, file_of}
 use Rattle.st_run.specs.Headline.{IsDone, IsReported, StopsIn, in_output, in_report, in_read_fault, in_want, Finishes, finished, stops_in_output, stops_in_report, stops_in_want, wants, EndsBy, DoesTold, Calls, finishes, lacks, fails, stops_in_fault}
 use Rattle.st_run.proofs.SomeOutcome.{some_outcome, some_of_rules, of_task_status}
+use Rattle.st_run.proofs.OneOutcome.{one_answer}
 
 -- what holds of the outcome holds for the command
 for_outcome : (command : Option Command) (left : Option (List ℕ)) (P : Outcome → Type 0) (outcome : Outcome) → DoesTold command left outcome → P outcome → ForBytes command left P
@@ -197,7 +200,7 @@ module _ (command : Option Command) (left left' : Option (List ℕ)) (R W T : Ty
   fault_cause (fails at is r reads opens) eight = (r, reads)
   fault_cause (stops_in_fault nine t r same part reads) eight = cc
 
-  pub fault_open : Calls command left left' R W T out out' report report' status → status ≡ 8 → IfSome left (λ bytes. LeavesOpen bytes left')
+  pub fault_open : Calls command left left' R W T out out' report report' status → status ≡ 8 → IfSome left (λ bytes. StaysOpen command bytes left')
   fault_open (finishes outcome f is end) eight = absurd (not_8 outcome W T out out' report report' status f eight)
   fault_open (lacks f (inl nine)) eight = cc
   fault_open (lacks f (inr ten)) eight = cc
@@ -231,11 +234,26 @@ module _ (command : Option Command) (left left' : Option (List ℕ)) (R W T : Ty
   pub complete_of : Calls command left left' R W T out out' report report' status → ¬ R → ¬ W → ¬ T → status ≢ 10 → ForBytes command left (λ outcome. IsDone outcome out out' report report' status)
   complete_of calls no_read no_write no_report not10 = done_of calls (no_8 calls no_read) (no_9 calls no_write no_report) not10
 
-valid_status : (c : Command) (bytes : List ℕ) (o : Outcome) → Does (Some c) bytes o → IsValidFor c bytes → DoneBy c.task o.status
-valid_status c bytes o is v =
+file_status : (t : Task) (c : Command) (bytes : List ℕ) (o : Outcome) → c.task ≡ t → OfAnswer c (length (file_of c bytes)) (reading (file_of c bytes)) o → IsValidFor c bytes → DoneBy t o.status
+file_status t c bytes o same is v =
     let read : OfRules c v.units (length (file_of c bytes)) (first_break v.units) o = rw (v.reads) at is in
     let met : OfTask c.task c v.units (length (file_of c bytes)) o = rw (v.meets) at read in
-    of_task_status c.task c v.units (length (file_of c bytes)) o met
+    subst (λ (u : Task). DoneBy u o.status) same (of_task_status c.task c v.units (length (file_of c bytes)) o met)
+
+status_by : (t : Task) (c : Command) (bytes : List ℕ) (o : Outcome) → c.task ≡ t → OfInput t c bytes o → IsValidBy t c bytes → DoneBy t o.status
+status_by task.Audit c bytes o same is v =
+    let found : is.answer ≡ audit.Disciplined v.lines = one_answer bytes is.answer (audit.Disciplined v.lines) is.audits v.audits in
+    ap (λ (x : Outcome). x.status) (is.outcome ∙ ap audited found)
+status_by task.Run c bytes o same is v = file_status task.Run c bytes o same is v
+status_by task.Check c bytes o same is v = file_status task.Check c bytes o same is v
+status_by task.List c bytes o same is v = file_status task.List c bytes o same is v
+status_by task.Export c bytes o same is v = file_status task.Export c bytes o same is v
+status_by task.Gen c bytes o same is v = file_status task.Gen c bytes o same is v
+status_by task.Trace c bytes o same is v = file_status task.Trace c bytes o same is v
+status_by task.Shake c bytes o same is v = file_status task.Shake c bytes o same is v
+
+valid_status : (c : Command) (bytes : List ℕ) (o : Outcome) → Does (Some c) bytes o → IsValidBy c.task c bytes → DoneBy c.task o.status
+valid_status c bytes o is v = status_by c.task c bytes o refl is v
 
 pub valid_of : (command : Option Command) (left : Option (List ℕ)) (out out' report report' : Option (List ℕ)) (status : ℕ) → ForBytes command left (λ outcome. IsDone outcome out out' report report' status) → Reads command → IfSome left (λ bytes. IsValid command bytes → DoneStatus command status)
 valid_of None left out out' report report' status done reads = absurd reads
@@ -263,14 +281,49 @@ none_left None lines is = tt
 none_left (Some []) lines is = refl
 none_left (Some (x ∷ xs)) lines is = absurd cc
 
-module _ (c : Command) (left left' : Option (List ℕ)) (lines lines' : List ℕ) (R W T : Type 0) (out out' report report' : Option (List ℕ)) (status : ℕ) where
+-- a file with a program comes to what its reading answers
+of_program : (t : Task) → ReadsProgram t → (c : Command) (bytes : List ℕ) (o : Outcome) → OfAnswer c (length (file_of c bytes)) (reading (file_of c bytes)) o → OfInput t c bytes o
+of_program task.Audit program c bytes o is = absurd program
+of_program task.Run program c bytes o is = is
+of_program task.Check program c bytes o is = is
+of_program task.List program c bytes o is = is
+of_program task.Export program c bytes o is = is
+of_program task.Gen program c bytes o is = is
+of_program task.Trace program c bytes o is = is
+of_program task.Shake program c bytes o is = is
+
+opens_program : (t : Task) → ReadsProgram t → (left left' : Option (List ℕ)) → IfSome left (λ bytes. LeavesOpen bytes left') → IfSome left (λ bytes. LeavesOpenBy t bytes left')
+opens_program task.Audit program left left' h = absurd program
+opens_program task.Run program left left' h = h
+opens_program task.Check program left left' h = h
+opens_program task.List program left left' h = h
+opens_program task.Export program left left' h = h
+opens_program task.Gen program left left' h = h
+opens_program task.Trace program left left' h = h
+opens_program task.Shake program left left' h = h
+
+pub reads_program : (t : Task) → (t ≡ task.Audit → ⊥) → ReadsProgram t
+reads_program task.Audit other = absurd (other refl)
+reads_program task.Run other = tt
+reads_program task.Check other = tt
+reads_program task.List other = tt
+reads_program task.Export other = tt
+reads_program task.Gen other = tt
+reads_program task.Trace other = tt
+reads_program task.Shake other = tt
+
+module _ (c : Command) (program : ReadsProgram c.task) (left left' : Option (List ℕ)) (lines lines' : List ℕ) (R W T : Type 0) (out out' report report' : Option (List ℕ)) (status : ℕ) where
   read_does : (left : Option (List ℕ)) (us : List unit.Unit) (bytes : ℕ) (o : Outcome) → IfSome left (λ file. reading (file_of c file) ≡ Read us) → IfSome left (λ file. bytes ≡ length (file_of c file)) → OfRules c us bytes (first_break us) o → IfSome left (λ file. Does (Some c) file o)
   read_does None us bytes o is count does = tt
-  read_does (Some file) us bytes o is count does = rw is (rw (← count) does)
+  read_does (Some file) us bytes o is count does =
+      let answers : OfAnswer c (length (file_of c file)) (reading (file_of c file)) o = rw is (rw (← count) does) in
+      of_program c.task program c file o answers
 
   refused_does : (left : Option (List ℕ)) (place : Place) (why : Reason) → IfSome left (λ file. reading (file_of c file) ≡ Refuse place.element place.byte why) → IfSome left (λ file. Does (Some c) file (refused place why))
   refused_does None place why is = tt
-  refused_does (Some file) place why is = rw is refl
+  refused_does (Some file) place why is =
+      let answers : OfAnswer c (length (file_of c file)) (reading (file_of c file)) (refused place why) = rw is refl in
+      of_program c.task program c file (refused place why) answers
 
   pub read_calls : (us : List unit.Unit) (bytes : ℕ) → lines ≡ behind c → IfSome (append_known left lines) (λ file. reading file ≡ Read us) → IfSome (append_known left lines) (λ file. bytes ≡ length file) → IfSome (append_known left' lines') (λ bytes. bytes ≡ []) → EndsBy (OfRules c us bytes (first_break us)) W T out out' report report' status → Calls (Some c) left left' R W T out out' report report' status
   read_calls us bytes same is count end e =
@@ -281,11 +334,15 @@ module _ (c : Command) (left left' : Option (List ℕ)) (lines lines' : List ℕ
       finishes (refused place why) (any_write (refused place why) W T out out report report' status f) (refused_does left place why (known_file c left lines (λ file. reading file ≡ Refuse place.element place.byte why) same is)) (λ at. absurd (no_ending (refused place why) ⊥ T out out report report' status (not_1_or_2 1 (inl refl)) f at))
 
 pub fault_calls : (c : Command) (left left' : Option (List ℕ)) (R W T : Type 0) (out report report' : Option (List ℕ)) (status : ℕ)
-    → (status ≢ 9 → (status ≡ 8) × (report' ≡ append_known report read_fault_line)) → (status ≡ 9 → GainsPrefix report report' read_fault_line × T) → R → IfSome left (λ bytes. LeavesOpen bytes left') → Calls (Some c) left left' R W T out out report report' status
+    → (status ≢ 9 → (status ≡ 8) × (report' ≡ append_known report read_fault_line)) → (status ≡ 9 → GainsPrefix report report' read_fault_line × T) → R → IfSome left (λ bytes. StaysOpen (Some c) bytes left') → Calls (Some c) left left' R W T out out report report' status
 fault_calls c left left' R W T out report report' status whole part r opens = elim (eqb_tells status 9) [
   | inl at ↦ stops_in_fault at.1 (part at.1).1 r refl (part at.1).0 tt
   | inr other ↦ fails (whole other.1).0 (record { wrote = refl; told = (whole other.1).1 }) r tt opens
 ]
+
+pub program_fault_calls : (c : Command) → ReadsProgram c.task → (left left' : Option (List ℕ)) (R W T : Type 0) (out report report' : Option (List ℕ)) (status : ℕ)
+    → (status ≢ 9 → (status ≡ 8) × (report' ≡ append_known report read_fault_line)) → (status ≡ 9 → GainsPrefix report report' read_fault_line × T) → R → IfSome left (λ bytes. LeavesOpen bytes left') → Calls (Some c) left left' R W T out out report report' status
+program_fault_calls c program left left' R W T out report report' status whole part r opens = fault_calls c left left' R W T out report report' status whole part r (opens_program c.task program left left' opens)
 
 pub usage_calls : (command : Option Command) (left left' : Option (List ℕ)) (R W T : Type 0) (out report report' : Option (List ℕ)) (status : ℕ) → command ≡ None → Finishes usage ⊥ T out out report report' status → Calls command left left' R W T out out report report' status
 usage_calls command left left' R W T out report report' status is f = finishes usage (any_write usage W T out out report report' status f) (rw is refl) (λ at. absurd (no_ending usage ⊥ T out out report report' status (not_1_or_2 2 (inr refl)) f at))

@@ -4,3 +4,4 @@ pub mod RunLemmas
 pub mod SomeOutcome
 pub mod StatsLemmas
 pub mod TraceLemmas
+pub mod AuditLemmas

@@ -16,8 +16,11 @@ use Rattle.st_words.specs.declared.command.Command.{Command}
 use Rattle.st_words.specs.declared.command.Task.{Task}
 use Rattle.st_words.specs.declared.command.Task.TheVariants as task
 use Rattle.st_tracer.specs.Traced.{trace_text}
-use Rattle.st_run.specs.Outcomes.{Outcome, program_for, transcript, summary, ended, IsOfRun, OfTask}
-use Rattle.st_run.specs.Commands.{OfRules, OfAnswer, OneOutcome, file_of}
+use Rattle.st_run.specs.Outcomes.{Outcome, program_for, transcript, summary, ended, audited, IsOfRun, OfAudit, OfTask}
+use Rattle.st_trace.specs.Bytes.{Audits}
+use Rattle.st_trace.specs.declared.auditing.AuditAnswer.{AuditAnswer}
+use Rattle.st_trace.proofs.Walking.{audits_once}
+use Rattle.st_run.specs.Commands.{OfInput, OfRules, OfAnswer, OneOutcome, file_of}
 
 -- ---- instructions
 
@@ -73,6 +76,7 @@ one_of_task task.List c us bytes o o' a b = a ∙ sym b
 one_of_task task.Export c us bytes o o' a b = a ∙ sym b
 one_of_task task.Gen c us bytes o o' a b = one_of_run c us (summary us bytes) o o' a b
 one_of_task task.Trace c us bytes o o' a b = one_of_run c us trace_text o o' a b
+one_of_task task.Audit c us bytes o o' a b = a ∙ sym b
 one_of_task task.Shake c us bytes o o' a b = a ∙ sym b
 
 one_of_rules : (c : Command) (us : List unit.Unit) (bytes : ℕ) (x : Option Break) (o o' : Outcome) → OfRules c us bytes x o → OfRules c us bytes x o' → o ≡ o'
@@ -83,6 +87,23 @@ one_of_answer : (c : Command) (bytes : ℕ) (x : Answer) (o o' : Outcome) → Of
 one_of_answer c bytes (Refuse element byte why) o o' a b = a ∙ sym b
 one_of_answer c bytes (Read us) o o' a b = one_of_rules c us bytes (first_break us) o o' a b
 
+-- an input has one audit
+pub one_answer : (bytes : List ℕ) (a a' : AuditAnswer) → Audits bytes a → Audits bytes a' → a ≡ a'
+one_answer bytes a a' h h' = audits_once bytes a h ∙ sym (audits_once bytes a' h')
+
+one_of_audit : (bytes : List ℕ) (o o' : Outcome) → OfAudit bytes o → OfAudit bytes o' → o ≡ o'
+one_of_audit bytes o o' a b = a.outcome ∙ ap audited (one_answer bytes a.answer b.answer a.audits b.audits) ∙ sym b.outcome
+
+one_of_input : (t : Task) (c : Command) (bytes : List ℕ) (o o' : Outcome) → OfInput t c bytes o → OfInput t c bytes o' → o ≡ o'
+one_of_input task.Audit c bytes o o' a b = one_of_audit bytes o o' a b
+one_of_input task.Run c bytes o o' a b = one_of_answer c (length (file_of c bytes)) (reading (file_of c bytes)) o o' a b
+one_of_input task.Check c bytes o o' a b = one_of_answer c (length (file_of c bytes)) (reading (file_of c bytes)) o o' a b
+one_of_input task.List c bytes o o' a b = one_of_answer c (length (file_of c bytes)) (reading (file_of c bytes)) o o' a b
+one_of_input task.Export c bytes o o' a b = one_of_answer c (length (file_of c bytes)) (reading (file_of c bytes)) o o' a b
+one_of_input task.Gen c bytes o o' a b = one_of_answer c (length (file_of c bytes)) (reading (file_of c bytes)) o o' a b
+one_of_input task.Trace c bytes o o' a b = one_of_answer c (length (file_of c bytes)) (reading (file_of c bytes)) o o' a b
+one_of_input task.Shake c bytes o o' a b = one_of_answer c (length (file_of c bytes)) (reading (file_of c bytes)) o o' a b
+
 pub one_outcome : OneOutcome
 one_outcome None bytes o o' a b = a ∙ sym b
-one_outcome (Some c) bytes o o' a b = one_of_answer c (length (file_of c bytes)) (reading (file_of c bytes)) o o' a b
+one_outcome (Some c) bytes o o' a b = one_of_input c.task c bytes o o' a b

@@ -1,5 +1,5 @@
 -- Each command has an outcome for each input: each program has a run by the rules, and the flat machine makes it.
-use Rattle.std.proofs.Common.{inl, inr, ℕ, List, length, Option, None, Some, refl, arith}
+use Rattle.std.proofs.Common.{inl, inr, ℕ, List, [], length, Option, None, Some, refl, arith}
 use Rattle.st_tree.specs.declared.units.Unit as unit
 use Rattle.sif_elements.specs.Reading.{Answer, Read, Refuse}
 use Rattle.sif_elements.specs.Steps.{reading}
@@ -17,8 +17,10 @@ use Rattle.st_answers.specs.Listing.{ok_line, listing}
 use Rattle.sif_export.specs.ExportText.{export_text}
 use Rattle.st_shake.specs.Shaken.{shaken}
 use Rattle.st_tracer.specs.Traced.{trace_text}
-use Rattle.st_run.specs.Outcomes.{Outcome, done, refused, usage, program_for, ending_status, transcript, summary, ended, IsOfRun, OfTask, IsEnding, DoneBy}
-use Rattle.st_run.specs.Commands.{place_at, OfRules, OfAnswer, SomeOutcome, file_of}
+use Rattle.st_run.specs.Outcomes.{Outcome, done, refused, usage, program_for, ending_status, transcript, summary, ended, audited, IsOfRun, OfTask, IsEnding, DoneBy}
+use Rattle.st_trace.specs.Audit.{audit_of}
+use Rattle.st_trace.proofs.Walking.{audits_each}
+use Rattle.st_run.specs.Commands.{place_at, OfInput, OfRules, OfAnswer, SomeOutcome, file_of}
 
 pub some_of_run : (c : Command) (us : List unit.Unit) (output : Ending → State → List ℕ) → (o : Outcome) × IsOfRun c us output o
 some_of_run c us output =
@@ -42,6 +44,7 @@ some_of_task task.List c us bytes = (done (listing us), refl)
 some_of_task task.Export c us bytes = (done (export_text us), refl)
 some_of_task task.Gen c us bytes = some_of_run c us (summary us bytes)
 some_of_task task.Trace c us bytes = some_of_run c us trace_text
+some_of_task task.Audit c us bytes = (done [], refl)
 some_of_task task.Shake c us bytes = (done (export_text (shaken us)), refl)
 
 pub some_of_rules : (c : Command) (us : List unit.Unit) (bytes : ℕ) (b : Option Break) → (o : Outcome) × OfRules c us bytes b o
@@ -52,9 +55,19 @@ some_of_answer : (c : Command) (bytes : ℕ) (a : Answer) → (o : Outcome) × O
 some_of_answer c bytes (Refuse element byte why) = (refused (place_at element byte) why, refl)
 some_of_answer c bytes (Read us) = some_of_rules c us bytes (first_break us)
 
+some_of_input : (t : Task) (c : Command) (bytes : List ℕ) → (o : Outcome) × OfInput t c bytes o
+some_of_input task.Audit c bytes = (audited (audit_of bytes), record { answer = audit_of bytes; audits = audits_each bytes; outcome = refl })
+some_of_input task.Run c bytes = some_of_answer c (length (file_of c bytes)) (reading (file_of c bytes))
+some_of_input task.Check c bytes = some_of_answer c (length (file_of c bytes)) (reading (file_of c bytes))
+some_of_input task.List c bytes = some_of_answer c (length (file_of c bytes)) (reading (file_of c bytes))
+some_of_input task.Export c bytes = some_of_answer c (length (file_of c bytes)) (reading (file_of c bytes))
+some_of_input task.Gen c bytes = some_of_answer c (length (file_of c bytes)) (reading (file_of c bytes))
+some_of_input task.Trace c bytes = some_of_answer c (length (file_of c bytes)) (reading (file_of c bytes))
+some_of_input task.Shake c bytes = some_of_answer c (length (file_of c bytes)) (reading (file_of c bytes))
+
 pub some_outcome : SomeOutcome
 some_outcome None bytes = (usage, refl)
-some_outcome (Some c) bytes = some_of_answer c (length (file_of c bytes)) (reading (file_of c bytes))
+some_outcome (Some c) bytes = some_of_input c.task c bytes
 
 -- ---- statuses
 
@@ -77,4 +90,5 @@ of_task_status task.List c us bytes o is = rw is refl
 of_task_status task.Export c us bytes o is = rw is refl
 of_task_status task.Gen c us bytes o is = run_status c us (summary us bytes) o is
 of_task_status task.Trace c us bytes o is = run_status c us trace_text o is
+of_task_status task.Audit c us bytes o is = rw is refl
 of_task_status task.Shake c us bytes o is = rw is refl

@@ -2,11 +2,10 @@
 use Rattle.std.specs.Prelude.{◌≡◌, ◌≢◌, ◌⊎◌, ℕ, List, [], Option, Some, None, IfSome}
 use Rattle.std.specs.Io.KnownBytes.{append_known}
 use Rattle.st_base.specs.Streams.{GainsPrefix}
-use Rattle.sif_elements.specs.Answered.{LeavesOpen}
 use Rattle.st_words.specs.declared.command.Command.{Command}
 use Rattle.st_run.specs.Reports.{read_fault_line, memory_line}
 use Rattle.st_run.specs.Outcomes.{Outcome, IsEnding}
-use Rattle.st_run.specs.Commands.{Does, Reads}
+use Rattle.st_run.specs.Commands.{Does, Reads, StaysOpen}
 
 -- the output and the report of an outcome were written, and its status answered
 pub record IsDone (outcome : Outcome) (out out' report report' : Option (List ℕ)) (status : ℕ) : Type 0 where
@@ -50,6 +49,6 @@ pub data Calls (command : Option Command) (left left' : Option (List ℕ)) (read
   finishes : (outcome : Outcome) → Finishes outcome written told out out' report report' status → DoesTold command left outcome
       → (IsEnding status → IfSome left' (λ bytes. bytes ≡ [])) → Calls command left left' read written told out out' report report' status
   lacks : ((outcome : Outcome) → Finishes outcome written told out out' report report' status) → (status ≡ 9) ⊎ (status ≡ 10) → Calls command left left' read written told out out' report report' status
-  fails : status ≡ 8 → IsReported read_fault_line out out' report report' → read → Reads command → IfSome left (λ bytes. LeavesOpen bytes left')
+  fails : status ≡ 8 → IsReported read_fault_line out out' report report' → read → Reads command → IfSome left (λ bytes. StaysOpen command bytes left')
       → Calls command left left' read written told out out' report report' status
   stops_in_fault : status ≡ 9 → told → read → out' ≡ out → GainsPrefix report report' read_fault_line → Reads command → Calls command left left' read written told out out' report report' status

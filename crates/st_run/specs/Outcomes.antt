@@ -17,7 +17,10 @@ use Rattle.st_gen.specs.Generated.{gen_line}
 use Rattle.sif_export.specs.ExportText.{export_text}
 use Rattle.st_shake.specs.Shaken.{shaken}
 use Rattle.st_tracer.specs.Traced.{trace_text}
-use Rattle.st_run.specs.Reports.{refused_line, usage_line, stats_if, ending_line}
+use Rattle.st_trace.specs.Bytes.{Audits}
+use Rattle.st_trace.specs.declared.auditing.AuditAnswer.{AuditAnswer}
+use Rattle.st_trace.specs.declared.auditing.AuditAnswer.TheVariants as audit
+use Rattle.st_run.specs.Reports.{refused_line, usage_line, stats_if, ending_line, audit_line, disciplined_line}
 
 pub record Outcome : Type 0 where
   pub output : List ℕ
@@ -80,6 +83,20 @@ pub record IsOfRun (c : Command) (us : List unit.Unit) (output : Ending → Stat
   pub run : RunEnds (program_for c us) ending state instructions
   pub outcome : o ≡ ended c us ending state instructions (output ending state)
 
+-- ---- a trace
+
+abbrev pub audited : AuditAnswer → Outcome
+audited (audit.Disciplined lines) = done (disciplined_line lines)
+audited (audit.Refused line why) = record { output = []; report = audit_line line why; status = 11 }
+audited audit.ReadFault = done []
+audited audit.OutOfMemory = done []
+
+-- what the audit of these bytes comes to
+pub record OfAudit (bytes : List ℕ) (o : Outcome) : Type 0 where
+  pub answer : AuditAnswer
+  pub audits : Audits bytes answer
+  pub outcome : o ≡ audited answer
+
 -- ---- a task
 
 -- what a command makes of the units of a file of so many bytes
@@ -90,6 +107,8 @@ OfTask task.List c us bytes o = o ≡ done (listing us)
 OfTask task.Export c us bytes o = o ≡ done (export_text us)
 OfTask task.Gen c us bytes o = IsOfRun c us (summary us bytes) o
 OfTask task.Trace c us bytes o = IsOfRun c us trace_text o
+-- `audit` is asked of no program
+OfTask task.Audit c us bytes o = o ≡ done []
 OfTask task.Shake c us bytes o = o ≡ done (export_text (shaken us))
 
 -- the status of a task that is done with a program: of a run by its ending

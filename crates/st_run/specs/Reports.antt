@@ -8,6 +8,8 @@ use Rattle.st_base.specs.declared.faults.Reason.TheVariants.{MissingVersion, Mis
 use Rattle.st_code.specs.Program.{Program}
 use Rattle.st_rules.specs.State.{StepLimit, DepthLimit, CellLimit, IntegerLimit}
 use Rattle.st_rules.specs.Runs.{Ending, Done, Unhandled, AtLimit, Stuck}
+use Rattle.st_trace.specs.declared.auditing.AuditReason.{AuditReason}
+use Rattle.st_trace.specs.declared.auditing.AuditReason.TheVariants as why
 use Rattle.st_transcript.specs.Unhandled.{unhandled_text}
 
 -- the word of a reason
@@ -44,13 +46,29 @@ refused_line place reason =
     codes "stx: refused element " ++ decimal place.element ++ codes " byte " ++ decimal place.byte ++ codes " " ++ reason_word reason ++ codes "\n"
 
 abbrev pub usage_line : List ℕ
-usage_line = codes "stx: usage: stx [options] run|check|list|export|gen|trace|shake\n"
+usage_line = codes "stx: usage: stx [options] run|check|list|export|gen|trace|audit|shake\n"
 
 abbrev pub read_fault_line : List ℕ
 read_fault_line = codes "stx: read fault\n"
 
 abbrev pub memory_line : List ℕ
 memory_line = codes "stx: out of memory\n"
+
+-- ---- of a trace
+
+abbrev pub audit_word : AuditReason → List ℕ
+audit_word why.Line = codes "Line"
+audit_word why.Order = codes "Order"
+audit_word why.Missing = codes "Missing"
+audit_word why.InputTooLong = codes "InputTooLong"
+
+-- the first line that can't stand
+abbrev pub audit_line : (line : ℕ) → AuditReason → List ℕ
+audit_line line reason = codes "stx: audit event " ++ decimal line ++ codes " " ++ audit_word reason ++ codes "\n"
+
+-- what is written of a trace that is disciplined
+abbrev pub disciplined_line : (lines : ℕ) → List ℕ
+disciplined_line lines = codes "disciplined " ++ decimal lines ++ codes " events\n"
 
 -- ---- of a run
 

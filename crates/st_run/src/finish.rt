@@ -97,7 +97,7 @@ fn write_shaken<K: Sink, E: Sink>(
 }
 
 // Writes a text that is made, and answers the status.
-fn write_made<K: Sink, E: Sink>(
+pub(crate) fn write_made<K: Sink, E: Sink>(
     made: Result<Vec<u8>, OutOfMemory>,
     out: &mut K,
     report: &mut E,
@@ -132,6 +132,7 @@ fn perform<K: Sink, E: Sink>(
         Task::Export => write_text(out, &definition),
         Task::Gen => generate(alloc, command, bytes, definition, out, report),
         Task::Trace => trace(alloc, command, definition, out, report),
+        Task::Audit => write_out(out, b""),
         Task::Shake => write_shaken(alloc, &definition, out, report),
     }
 }

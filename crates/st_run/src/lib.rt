@@ -2,6 +2,7 @@
 // written, the report and the status come out.
 #![tactic(auto)]
 
+mod auditing;
 mod finish;
 mod generating;
 mod law;

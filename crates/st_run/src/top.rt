@@ -1,13 +1,13 @@
 // The top call: what the program does.
 ghost use Rattle.std.specs.Prelude.{◌≡◌, ◌≢◌, ◌⊎◌, map, string_bytes, IfOk, IfSome, Some, []};
 ghost use Rattle.st_base.specs.Streams.{Rose};
-ghost use Rattle.sif_elements.specs.Answered.{LeavesOpen};
 ghost use Rattle.st_words.specs.CommandLine.{command_of, IsInBounds};
 ghost use Rattle.st_run.specs.Reports.{read_fault_line, memory_line};
 ghost use Rattle.st_run.specs.Outcomes.{IsEnding};
-ghost use Rattle.st_run.specs.Commands.{behind, DoneStatus, ForBytes, IsValid, Reads};
+ghost use Rattle.st_run.specs.Commands.{behind, DoneStatus, ForBytes, IsValid, Reads, ReadsProgram, StaysOpen};
 ghost use Rattle.st_run.specs.Headline.{Calls, IsDone, IsReported, StopsIn};
 
+use crate::auditing::audit_trace;
 use crate::finish::{judge, refuse, report_usage, report_want_of_memory, tell};
 use crate::report::READ_FAULT;
 use sif_chunks::Appendix;
@@ -38,6 +38,7 @@ fn obey_with<S: Source, K: Sink, E: Sink>(
 ) -> u8
     requires lines { lines.now ≡ behind command }
     requires bounds { IsInBounds command }
+    requires program { ReadsProgram command.task }
     ensures { Calls (Some command) (S.left source.old) (S.left source.new) (Rose (S.faults source.old) (S.faults source.new)) (Rose (K.faults out.old) (K.faults out.new)) (Rose (E.faults report.old) (E.faults report.new))
         (K.written out.old) (K.written out.new) (E.written report.old) (E.written report.new) result }
 {
@@ -54,6 +55,25 @@ fn obey_with<S: Source, K: Sink, E: Sink>(
 }
 
 // Reads a program, and does what a command asks for.
+fn obey_on_program<S: Source, K: Sink, E: Sink>(
+    alloc: Global,
+    command: Command,
+    source: &mut S,
+    out: &mut K,
+    report: &mut E,
+) -> u8
+    requires bounds { IsInBounds command }
+    requires program { ReadsProgram command.task }
+    ensures { Calls (Some command) (S.left source.old) (S.left source.new) (Rose (S.faults source.old) (S.faults source.new)) (Rose (K.faults out.old) (K.faults out.new)) (Rose (E.faults report.old) (E.faults report.new))
+        (K.written out.old) (K.written out.new) (E.written report.old) (E.written report.new) result }
+{
+    match behind(alloc, command) {
+        Ok(lines) => obey_with(alloc, command, lines.as_slice(), source, out, report),
+        Err(_) => report_want_of_memory(report),
+    }
+}
+
+// Does what a command asks for.
 fn obey<S: Source, K: Sink, E: Sink>(
     alloc: Global,
     command: Command,
@@ -65,9 +85,9 @@ fn obey<S: Source, K: Sink, E: Sink>(
     ensures { Calls (Some command) (S.left source.old) (S.left source.new) (Rose (S.faults source.old) (S.faults source.new)) (Rose (K.faults out.old) (K.faults out.new)) (Rose (E.faults report.old) (E.faults report.new))
         (K.written out.old) (K.written out.new) (E.written report.old) (E.written report.new) result }
 {
-    match behind(alloc, command) {
-        Ok(lines) => obey_with(alloc, command, lines.as_slice(), source, out, report),
-        Err(_) => report_want_of_memory(report),
+    match command.task {
+        Task::Audit => audit_trace(alloc, command, source, out, report),
+        _ => obey_on_program(alloc, command, source, out, report),
     }
 }
 
@@ -91,7 +111,8 @@ fn call<S: Source, K: Sink, E: Sink>(
 
 /// Does all that the program does for its words and its input, and answers the status: 0 done,
 /// 1 a refused input, 2 words that are no command, 3 an exception that nothing handled, 4 to 7 the
-/// limit of steps, depth, cells or integers, 8 a read fault, 9 a write fault, 10 want of memory. All
+/// limit of steps, depth, cells or integers, 8 a read fault, 9 a write fault, 10 want of memory, 11 a
+/// trace that isn't disciplined. All
 /// of the input is read and checked before any output is written. The Transcript is written as the
 /// run goes on, and all of the output before the report.
 pub fn stx<S: Source, K: Sink, E: Sink>(
@@ -110,7 +131,7 @@ pub fn stx<S: Source, K: Sink, E: Sink>(
     // A read fault: a command read, the source failed, and what it gave before settles no refusal.
     ensures read_fault { result ≡ 8 → IsReported read_fault_line (K.written out.old) (K.written out.new) (E.written report.old) (E.written report.new) }
     ensures read_cause { result ≡ 8 → Rose (S.faults source.old) (S.faults source.new) × Reads (command_of (map string_bytes words.now)) }
-    ensures read_open { result ≡ 8 → IfSome (S.left source.old) (λ bytes. LeavesOpen bytes (S.left source.new)) }
+    ensures read_open { result ≡ 8 → IfSome (S.left source.old) (λ bytes. StaysOpen (command_of (map string_bytes words.now)) bytes (S.left source.new)) }
 
     // A write fault: the output or the report failed, and holds a prefix of what was to be written.
     ensures write_fault { result ≡ 9 → ForBytes (command_of (map string_bytes words.now)) (S.left source.old)

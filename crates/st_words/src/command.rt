@@ -24,6 +24,8 @@ pub enum Task {
     Gen,
     /// Runs it, and writes its events and how it stopped, a line each.
     Trace,
+    /// Says of a trace that it is disciplined, or which of its lines is the first that can't stand.
+    Audit,
     /// Writes the canonical text of what its run can reach by name.
     Shake,
 }
@@ -52,6 +54,7 @@ fn task_of(name: &str) -> Option<Task>
         "export" => Some(Task::Export),
         "gen" => Some(Task::Gen),
         "trace" => Some(Task::Trace),
+        "audit" => Some(Task::Audit),
         "shake" => Some(Task::Shake),
         _ => None,
     }

@@ -1,5 +1,5 @@
 -- Each task has its outcome.
-use Rattle.std.proofs.Common.{refl}
+use Rattle.std.proofs.Common.{[], refl}
 use Rattle.sif_export.specs.ExportText.{export_text}
 use Rattle.st_answers.specs.Listing.{ok_line, listing}
 use Rattle.st_shake.specs.Shaken.{shaken}
@@ -31,6 +31,9 @@ returns-in-Gen g c = of_task task.Gen c.args.command c.args.definition.units c.a
 
 pub returns-in-Trace : goal.returns-in-Trace
 returns-in-Trace g c = of_task task.Trace c.args.command c.args.definition.units c.args.bytes _ _ _ _ _ _ _ c.in-Trace.is c.trace.ensures
+
+pub returns-in-Audit : goal.returns-in-Audit
+returns-in-Audit g c = of_task task.Audit c.args.command c.args.definition.units c.args.bytes _ _ _ _ _ _ _ c.in-Audit.is (ends_by (OfTask task.Audit c.args.command c.args.definition.units c.args.bytes) (done []) _ _ _ _ _ _ _ refl (any_report (done []) _ _ _ _ _ _ _ (c.write_out.ensures _)))
 
 pub returns-in-Shake : goal.returns-in-Shake
 returns-in-Shake g c =
