@@ -14,13 +14,14 @@ ghost use Rattle.st_machine.specs.Opening.{beginning};
 ghost use Rattle.st_messages.specs.Rows.{boolean_row};
 
 use crate::budget::Budget;
+use crate::messages::send_built_in;
 use crate::sends::begin_send;
 use crate::works::apply;
 use object_heap::{Heap, Value};
 use st_collections::is_measured;
 use st_contexts::Env;
 use st_machine::Machine;
-use st_messages::OfBoolean;
+use st_messages::{MessageRow, OfBoolean};
 
 // The branch that a Boolean chooses.
 #[tactic(auto, unfolding(st_collections::specs::ObjectRows::boolean_action))]
@@ -82,6 +83,9 @@ pub fn send_boolean<H: Heap>(
             }
             begin_send(machine, selector, receiver, env, budget)
         }
-        None => begin_send(machine, selector, receiver, env, budget),
+        None => {
+            let row = MessageRow::Boolean(message);
+            send_built_in(machine, row, selector, receiver, env, budget)
+        }
     }
 }

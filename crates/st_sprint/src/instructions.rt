@@ -1,10 +1,11 @@
 // The instructions of a body, each made in place with what it brings at once.
 ghost use Rattle.std.specs.Prelude.{◌≡◌, ◌<◌, Some};
+ghost use Rattle.st_code.specs.declared.instruction.Instruction.{Instruction};
 ghost use Rattle.st_code.specs.declared.instruction.Variable.TheVariants.{Own};
 ghost use Rattle.st_machine.specs.Instructions.{counted};
 ghost use Rattle.st_contexts.specs.Moving.{body_of};
 ghost use Rattle.st_contexts.specs.Stack.{top_value};
-ghost use Rattle.st_sprint.specs.Dashes.{Comes, Pushes, Leaves, popped_on, stored_on, operands_taken, receiver_of, body_left, block_added, block_number};
+ghost use Rattle.st_sprint.specs.Dashes.{Comes, Pushes, Leaves, popped_on, stored_on, written_on, operands_taken, receiver_of, body_left, block_added, block_number};
 ghost use Rattle.st_sprint.specs.Sprinting.{SameRun};
 
 use crate::budget::Budget;
@@ -127,6 +128,64 @@ pub fn store_next<H: Heap>(machine: &mut Machine<H>, index: u32, budget: Budget)
     count(machine);
     store_on(machine, index);
     budget.after_instruction()
+}
+
+// The last operand goes to a variable of this frame, and the next instruction comes.
+fn write_on<H: Heap>(machine: &mut Machine<H>, variable: Variable, frame: Frame)
+    ensures { machine.new ≡ written_on variable frame machine.old }
+{
+    let value = machine.contexts.top();
+    machine.write(variable, value, frame);
+    machine.contexts.go_on();
+}
+
+// The next instruction stores into a variable of this frame.
+fn store_of<H: Heap>(
+    machine: &mut Machine<H>,
+    variable: Variable,
+    frame: Frame,
+    budget: Budget,
+) -> Budget
+    requires steps { 0 < budget.steps }
+    requires turns { 0 < budget.turns }
+    requires comes { Comes (Instruction.Store variable) machine.old }
+    requires body { body_of machine.old.stack ≡ Some frame }
+    ensures { SameRun budget.steps budget.turns machine.old result.steps result.turns machine.new }
+{
+    count(machine);
+    write_on(machine, variable, frame);
+    budget.after_instruction()
+}
+
+/// The next instruction stores into any variable.
+pub fn store_any_next<H: Heap>(
+    machine: &mut Machine<H>,
+    variable: Variable,
+    budget: Budget,
+) -> Budget
+    requires steps { 0 < budget.steps }
+    requires turns { 0 < budget.turns }
+    requires comes { Comes (Instruction.Store variable) machine.old }
+    ensures { SameRun budget.steps budget.turns machine.old result.steps result.turns machine.new }
+{
+    match machine.contexts.body() {
+        Some(frame) => {
+            let copied = *frame;
+            store_of(machine, variable, copied, budget)
+        }
+        None => budget,
+    }
+}
+
+/// The next instruction pushes the last operand again.
+pub fn again_next<H: Heap>(machine: &mut Machine<H>, budget: Budget) -> Budget
+    requires steps { 0 < budget.steps }
+    requires turns { 0 < budget.turns }
+    requires comes { Comes Instruction.Dup machine.old }
+    ensures { SameRun budget.steps budget.turns machine.old result.steps result.turns machine.new }
+{
+    let value = machine.contexts.top();
+    push_next(machine, value, budget)
 }
 
 /// The next instruction is a send.
