@@ -1,5 +1,5 @@
 -- A built-in message that is done in place: one small step that tells and writes nothing.
-use Rattle.std.proofs.Common.{◌≡◌, ℕ, ◌+◌, ◌-◌, ◌<◌, List, [], ◌∷◌, Bool, true, false, Option, Some, None, IfSome, IfNone, refl, ap, sym, ◌∙◌, if◌then◌else◌}
+use Rattle.std.proofs.Common.{◌≡◌, ℕ, ◌+◌, ◌-◌, ◌<◌, List, [], ◌∷◌, Bool, true, false, Option, Some, None, IfSome, IfNone, refl, ap, sym, ◌∙◌}
 use Rattle.std.specs.Prelude.{max, length, is_some}
 use Rattle.object_heap.specs.declared.value.Value.{Value}
 use Rattle.object_heap.specs.declared.trouble.Trouble.TheVariants.{ZeroDivide}
@@ -23,21 +23,19 @@ use Rattle.st_loops.specs.Starts.{started}
 use Rattle.st_loops.specs.Steps.{told_of, memory_after as visit_memory}
 use Rattle.st_messages.specs.declared.reply.Reply.{Reply}
 use Rattle.st_messages.specs.declared.row.MessageRow.{MessageRow}
-use Rattle.st_messages.specs.Replies.{Seen as Said, Answered, Raised, GoesOn, seen, told_by, memory_after, passed_on, is_lost, unless_lost}
+use Rattle.st_messages.specs.Replies.{Seen as Said, GoesOn, seen, told_by, memory_after, passed_on, is_lost, unless_lost}
 use Rattle.st_messages.specs.Rows.{table_row}
 use Rattle.st_messages.specs.Sent.{is_ready, is_sound}
 use Rattle.st_rules.specs.Sends.{send_action, row_action}
 use Rattle.st_machine.specs.declared.work.Mode.{Mode}
 use Rattle.st_machine.specs.declared.work.Mode.TheVariants.{Begin}
-use Rattle.st_machine.specs.declared.work.Told.{Told}
 use Rattle.st_machine.specs.declared.work.Told.TheVariants.{Nothing}
 use Rattle.st_machine.specs.declared.work.Work.TheVariants as work
 use Rattle.st_machine.specs.Loops.{no_loop, iterated_by, loop_begins}
 use Rattle.st_machine.specs.Opening.{has_place, has_step, stepped, beginning}
-use Rattle.st_machine.specs.Passing.{fits_in, put_on, passing_on}
 use Rattle.st_machine.specs.Performing.{answered_so, said, said_told, said_written, performed}
 use Rattle.st_machine.specs.Plans.{program_in}
-use Rattle.st_machine.specs.Seen.{Seen, with_mode, with_memory, with_passed, passing}
+use Rattle.st_machine.specs.Seen.{Seen, with_mode, with_memory}
 use Rattle.st_machine.specs.Signals.{text_in}
 use Rattle.st_machine.proofs.Replied.{seen_later}
 use Rattle.st_sprint.specs.AtOnce.{does_of, is_quiet, Replies, RepliesQuietly, replied}
@@ -209,20 +207,12 @@ replies_at_once n left selector row r env reply s s1 s2 ln f a h e2 =
     let later : seen (program_in s.plan) m.store s.passed.values reply ≡ told_by b s.memory = seen_later (program_in s.plan) s.passed.values b s.memory reply a.replies.told in
     let there : s2 ≡ one_step (with_memory s m) = e2 ∙ ap (λ (x : Seen). stepped x) a.replies.made ∙ step_taken (with_memory s m) h in
     let does : replied reply env s2 ≡ performed b env begun =
-      ap (λ (x : Seen). replied reply env x) there
-      ∙ sym (said_any (program_in s.plan) m.store s.passed.values reply env (one_step (with_memory s m)) (Begin (work.SendTo selector r env)) a.quiet)
-      ∙ ap (λ (x : Said). said x env (with_memory begun m)) later in
+    ap (λ (x : Seen). replied reply env x) there
+    ∙ sym (said_any (program_in s.plan) m.store s.passed.values reply env (one_step (with_memory s m)) (Begin (work.SendTo selector r env)) a.quiet)
+    ∙ ap (λ (x : Said). said x env (with_memory begun m)) later in
     sends_so n left selector r env b s (replied reply env s2) ln
     (row_sound (program_in s.plan) s.memory.store selector (table_row row) r s.passed.values f.is a.replies.sound)
     (row_does (program_in s.plan) s.memory.store selector (table_row row) r s.passed.values f.is) h
     (ap (λ (x : Said). said_told x begun) (sym a.replies.told) ∙ quiet_tells (program_in s.plan) s.memory.store s.passed.values reply begun a.quiet)
     (ap (λ (x : Said). said_written x) (sym a.replies.told) ∙ quiet_writes (program_in s.plan) s.memory.store s.passed.values reply a.quiet)
     does
-
--- ---- values that a reply passes on
-
-pub put_passes : (args : List Value) (next : Seen → Seen) (s s' : Seen) → s' ≡ with_passed s (put_on args s.passed) → fits_in args s.passed ≡ true → passing_on args next s ≡ next s'
-put_passes args next s s' e fits = rw (e, fits) refl
-
-pub put_nothing : (args : List Value) (s s' : Seen) → s' ≡ with_passed s (put_on args s.passed) → fits_in args s.passed ≡ false → s' ≡ s
-put_nothing args s s' e fits = rw (e, fits) refl

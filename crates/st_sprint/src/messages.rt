@@ -29,13 +29,7 @@ fn reply_of<H: Heap>(machine: &mut Machine<H>, row: MessageRow, receiver: Value)
     ensures kept { IfNone result (machine.new ≡ machine.old) }
 {
     let arguments = machine.passed.values();
-    row_message(
-        &mut machine.heap,
-        &machine.loaded,
-        row,
-        receiver,
-        arguments,
-    )
+    row_message(&mut machine.heap, &machine.loaded, row, receiver, arguments)
 }
 
 // Whether a reply tells nothing and writes nothing, whatever stands.
@@ -129,12 +123,7 @@ fn activate_with<H: Heap>(
 }
 
 // What a reply says, as far as it goes on at once.
-fn go_on_with<H: Heap>(
-    machine: &mut Machine<H>,
-    reply: Reply,
-    env: Env,
-    budget: Budget,
-) -> Budget
+fn go_on_with<H: Heap>(machine: &mut Machine<H>, reply: Reply, env: Env, budget: Budget) -> Budget
     requires runs { machine.old.mode ≡ Run }
     ensures { SameRun budget.steps budget.turns (replied reply env machine.old) result.steps result.turns machine.new }
 {

@@ -1,4 +1,3 @@
-use Rattle.std.proofs.Common.{◌∙◌, ap}
 use Rattle.st_sprint.proofs.AtOnce.{replied_if, kept_if}
 use Rattle.st_sprint.proofs.messages.reply_of.Goals as goal
 

@@ -1,4 +1,4 @@
-use Rattle.std.proofs.Common.{◌≡◌, ◌<◌, arith}
+use Rattle.std.proofs.Common.{◌<◌, arith}
 use Rattle.st_sprint.proofs.Begun.{activate_steps}
 use Rattle.st_sprint.proofs.works.activate.Goals as goal
 
