@@ -110,7 +110,7 @@ class Walk:
         for fault in parser.faults:
             self._refuse(fault.at, self._said(fault))
         for token in parser.tokens:
-            if token.kind is Kind.CHARACTER and token.value >= 0xC2 and self.text[token.end : token.end + 1] > b"\x7f":
+            if token.kind is Kind.CHARACTER and token.end - token.start > 2:
                 self._refuse(token.start, "a character beyond one byte")
             elif token.kind is Kind.ASSIGN and token.text == b"_":
                 self.edits.replace(token.start, token.end, b":=")
