@@ -77,6 +77,9 @@ FILES = [
      b"Object subclass: #A!\n!A class methodsFor: 'x'!\ninitialize\n\t^3! !\nA initialize!",
      b"Global initializer!\nA initialize! !"),
     ("temporaries that last to the end of the file", ["--from=gst"], b"| a | a := 3! a abs!", b"Global variable: 'a'!"),
+    ("each statement by itself", ["--from=gst", "--each"], b"3 foo! 4 abs!",
+     b"Global initializer!\n[3 foo]\n\ton: Error\n\tdo: [:error | Transcript show: error class name; show: ': '; "
+     b"show: error messageText displayString; cr]! !\n"),
     ("a comment", [], b"'From Squeak5.3 of today'!\nObject subclass: #A!", b"\"From Squeak5.3 of today\"!\n"),
 ]
 

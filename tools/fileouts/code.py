@@ -7,7 +7,7 @@ from dataclasses import dataclass, field
 from interchange.bodies import (CONSTANTS, Block, Body, Brace, Expression, Fault, Literal, Message, Method, Name, Operand,
                                 Paren, Parser, Pragma, Variable, parts)
 from interchange.elements import is_name
-from interchange.tokens import Kind
+from interchange.tokens import Kind, tokens_of
 
 from .edits import Edits, trimmed, with_line_feeds
 from .names import Names, Stands
@@ -28,6 +28,9 @@ ANSWERS_STRING = frozenset((b"printString", b"displayString", b"asString", b"pri
 SHOWS = {b"show:": b"displayString", b"display:": b"displayString", b"print:": b"printString"}
 APPLIES = frozenset((b"ifTrue:", b"ifFalse:", b"ifTrue:ifFalse:", b"ifFalse:ifTrue:", b"and:", b"or:"))
 STANDARD_SPACES = frozenset((b"Smalltalk", b"Core", b"Kernel", b"Root", b"SystemExceptions"))
+EACH = (b"[%s]\n\ton: Error\n\tdo: [:error | Transcript show: error class name; show: ': '; "
+        b"show: error messageText displayString; cr]")
+"""A piece of code whose Errors are shown, and don't end the program."""
 _PLAIN_INTEGER = re.compile(rb"-?[0-9]+(?:r[0-9A-Z]+)?\Z")
 
 
@@ -47,6 +50,7 @@ class Coder:
     names: Names
     report: Report
     shared: dict[int, set[bytes]] = field(default_factory=dict)
+    each: bool = False
     sent: dict[bytes, Spot] = field(default_factory=dict)
     wanted: dict[bytes, Spot] = field(default_factory=dict)
     applies_objects: bool = False
@@ -60,7 +64,10 @@ class Coder:
         scope = Scope(item.name, True) if item.target is Target.CLASS and self.names.is_class(item.name) else Scope()
         scope.is_doit = item.target is Target.PROGRAM
         texts = [self._part(variable, origin, scope) for variable, origin in item.parts]
-        return None if None in texts else b"\n".join(texts)
+        if None in texts:
+            return None
+        text = b"\n".join(texts)
+        return EACH % text if self.each and scope.is_doit and has_code(text) else text
 
     def _part(self, variable: bytes, origin: Origin, scope: Scope) -> bytes | None:
         walk = Walk(self, origin, scope)
@@ -467,6 +474,11 @@ class Walk:
                 before is not None and before.selector in ANSWERS_STRING)
             if message.selector == b"collect:" and is_string:
                 self._warn(message.start, "collect: of a String answers an Array here", "collect:")
+
+
+def has_code(text: bytes) -> bool:
+    """Whether more than comments stands in a text."""
+    return bool(tokens_of(text).tokens)
 
 
 def answers_string(operand: Operand) -> bool:

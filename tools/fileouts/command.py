@@ -9,10 +9,9 @@ from pathlib import Path
 
 from interchange import builtins
 from interchange.bodies import Parser
-from interchange.tokens import tokens_of
 
 from . import additions, bangs, brackets, checks, filetree, interchange_files, library, tonel
-from .code import Coder
+from .code import Coder, has_code
 from .linked import wishes_of, with_library
 from .names import Names
 from .program import Item, MethodItem, Program, Target
@@ -59,7 +58,7 @@ class Conversion:
         self._loaded()
         names = Names(self.program, library.load())
         checks.settle_classes(self.program, names)
-        coder = Coder(names, self.report, checks.shared_names(self.program))
+        coder = Coder(names, self.report, checks.shared_names(self.program), self.words.each)
         texts = self._texts(coder)
         checks.settle_methods(self.program, names)
         checks.settle_code(self.program, names)
@@ -200,11 +199,6 @@ def is_initialize(item: MethodItem) -> bool:
     if not item.class_side or not source.is_package or b"initialize" not in item.origin.bytes:
         return False
     return Parser(item.origin.bytes, source.tool.dialect).method().selector == b"initialize"
-
-
-def has_code(text: bytes) -> bool:
-    """Whether more than comments stands in a text."""
-    return bool(tokens_of(text).tokens)
 
 
 def words_of(arguments: list[str]) -> Words:
