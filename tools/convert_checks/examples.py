@@ -1,4 +1,4 @@
-"""The files of examples/fileouts: what they become is read, prints what is kept beside them, and converts to itself."""
+"""The files of examples/fileouts: what they become is read, prints what is kept, and converts to itself."""
 from __future__ import annotations
 
 from collections.abc import Iterator

@@ -62,14 +62,18 @@ REFUSED = [
      ["F.st:2:5: this is no element, or this can't stand in it"]),
     ("an unfinished text", [], b"Smalltalk interchangeVersion: '1.0'!\nGlobal initializer!\n3 abs",
      ["F.st:3:6: the last text has no bang behind it"]),
-    ("a file that is too deep", [], b"(" * 201 + b"3" + b")" * 201 + b" abs!", ["F.st:1:201: more than 200 brackets are open"]),
+    ("a file that is too deep", [], b"(" * 201 + b"3" + b")" * 201 + b" abs!",
+     ["F.st:1:201: more than 200 brackets are open"]),
 ]
 
 # what is warned of, the words, a file, the lines of the report
 WARNED = [
-    ("a message that nothing answers", ["--from=gst"], b"3 sqrtt. 4 sqrtt!", ["F.st:1:3: warning: #sqrtt is sent, and no class here has it"]),
+    ("a message that nothing answers", ["--from=gst"], b"3 sqrtt. 4 sqrtt!",
+     ["F.st:1:3: warning: #sqrtt is sent, and no class here has it"]),
     ("initialize of an unknown tool", [], b"Object subclass: #A!\n!A methodsFor: 'x'!\ninitialize\n\t^3! !",
      ["F.st:3:1: warning: whether `new` sends `initialize` depends on the tool: say --from or --initialize"]),
+    ("initialize that nothing sends", ["--from=gst"], b"Object subclass: A [ initialize [ ^3 ] ]",
+     ["F.st:1:22: warning: `new` doesn't send `initialize` up to version 3.2.5: say --initialize=yes for later ones"]),
     ("a class that is there again", [], b"Object subclass: #A! Object subclass: #A!",
      ["F.st:1:39: warning: A is defined again, and only this counts"]),
     ("a carriage return", ["--from=pharo"], b"Character cr foo: 3!",
@@ -82,9 +86,11 @@ WARNED = [
     ("another name of a class", ["--from=pharo"], b"Number name!", ["F.st:1:1: warning: Number is Integer here"]),
     ("a pragma", ["--from=pharo"], b"Object subclass: #A!\n!A methodsFor: 'x'!\nfoo\n\t<gtExample>\n\t^3! !",
      ["F.st:4:2: warning: <gtExample> is dropped"]),
-    ("a method that is taken out", [], b"Object subclass: #A!\n!A methodsFor: 'x'!\nfoo\n\t^3! !\nA removeSelector: #foo!",
+    ("a method that is taken out", [],
+     b"Object subclass: #A!\n!A methodsFor: 'x'!\nfoo\n\t^3! !\nA removeSelector: #foo!",
      ["F.st:5:3: warning: A>>foo is taken out"]),
-    ("what loads other files", ["--from=gst"], b"FileStream fileIn: 'x.st'!", ["F.st:1:12: warning: FileStream loads nothing here"]),
+    ("what loads other files", ["--from=gst"], b"FileStream fileIn: 'x.st'!",
+     ["F.st:1:12: warning: FileStream loads nothing here"]),
 ]
 
 

@@ -40,7 +40,8 @@ STATEMENTS = [
 # what is shown, the words, a file, what of the file that it becomes must stand in it
 FILES = [
     ("names are trimmed and divided at white space", ["--from=vw"],
-     b"Object subclass: #A instanceVariableNames: ' x\r\ty ' classVariableNames: '' poolDictionaries: '' category: ''!",
+     b"Object subclass: #A instanceVariableNames: ' x\r\ty ' classVariableNames: '' "
+     b"poolDictionaries: '' category: ''!",
      b"Class named: 'A' superclass: 'Object' indexedInstanceVariables: #none\n"
      b"\tinstanceVariableNames: 'x y' classVariableNames: '' sharedPools: ''\n"
      b"\tclassInstanceVariableNames: ''!\n"),
@@ -76,7 +77,8 @@ FILES = [
     ("of a file of chunks the file itself sends it", [],
      b"Object subclass: #A!\n!A class methodsFor: 'x'!\ninitialize\n\t^3! !\nA initialize!",
      b"Global initializer!\nA initialize! !"),
-    ("temporaries that last to the end of the file", ["--from=gst"], b"| a | a := 3! a abs!", b"Global variable: 'a'!"),
+    ("temporaries that last to the end of the file", ["--from=gst"], b"| a | a := 3! a abs!",
+     b"Global variable: 'a'!"),
     ("each statement by itself", ["--from=gst", "--each"], b"3 foo! 4 abs!",
      b"Global initializer!\n[3 foo]\n\ton: Error\n\tdo: [:error | Transcript show: error class name; show: ': '; "
      b"show: error messageText displayString; cr]! !\n"),

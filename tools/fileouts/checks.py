@@ -6,7 +6,7 @@ from interchange.bodies import Body, Name, Parser, Variable, parts
 
 from .code import nested_names
 from .names import AS_OBJECT, Names, Stands
-from .program import ClassItem, CodeItem, Declares, MethodItem, NameItem, Program, Target
+from .program import ClassItem, Declares, MethodItem, NameItem, Program, Target
 from .sources import Report, shown
 
 

@@ -4,14 +4,14 @@ from __future__ import annotations
 import re
 from dataclasses import dataclass, field
 
-from interchange.bodies import (CONSTANTS, Block, Body, Brace, Expression, Fault, Literal, Message, Method, Name, Operand,
-                                Paren, Parser, Pragma, Variable, parts)
+from interchange.bodies import (Block, Body, Brace, Expression, Fault, Literal, Message, Name, Operand, Paren, Parser,
+                                Pragma, Variable, parts)
 from interchange.elements import is_name
 from interchange.tokens import Kind, tokens_of
 
 from .edits import Edits, trimmed, with_line_feeds
 from .names import Names, Stands
-from .program import CodeItem, Declares, MethodItem, NameItem, Target
+from .program import CodeItem, MethodItem, Target
 from .sources import Origin, Report, Spot, shown
 
 FAULTS = {
@@ -287,7 +287,8 @@ class Walk:
 
     def _periods_out(self, brace: Brace) -> None:
         """Takes out the periods between the elements of a brace."""
-        bounds = [brace.start + 1, *[at for element in brace.elements for at in (element.start, element.end)], brace.end - 1]
+        inner = [at for element in brace.elements for at in (element.start, element.end)]
+        bounds = [brace.start + 1, *inner, brace.end - 1]
         for start, end in zip(bounds[::2], bounds[1::2]):
             for token in Parser(self.text[start:end], self.dialect).tokens:
                 if token.kind is Kind.PERIOD:
@@ -329,7 +330,7 @@ class Walk:
             self._unknown(real, variable.start)
 
     def _without_space(self, variable: Variable) -> bytes:
-        """The last part of a dotted name, where its namespace is one of the standard ones or has a class of the files."""
+        """The last part of a dotted name, where its namespace is a standard one or has a class of the files."""
         space, _, name = variable.text.rpartition(b".")
         if all(part in STANDARD_SPACES for part in space.split(b".")) or name in self.names.classes:
             return name

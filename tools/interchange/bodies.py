@@ -179,7 +179,7 @@ Primary = Literal | Variable | Paren | Block | Brace
 
 @dataclass(slots=True)
 class Method:
-    """A method: its pattern's selector and parameters, and its body. `pattern_end` is the offset behind the pattern."""
+    """A method: its pattern's selector and parameters, and its body. The pattern ends before `pattern_end`."""
 
     selector: bytes
     parameters: list[Name]

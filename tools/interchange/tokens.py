@@ -125,7 +125,7 @@ def tokens_of(text: bytes, dialect: Dialect = STX) -> Tokens:
 
 
 def value_of(figures: bytes, radix: int) -> int | None:
-    """The number that figures make, None where one isn't below the radix. Past 2^127 only that it is larger is told."""
+    """The number that figures make, None where one isn't below the radix. Past 2^127 only this is told."""
     value = 0
     for byte in figures:
         figure = byte - 0x30 if byte < 0x3A else byte - 0x41 + 10
