@@ -41,6 +41,9 @@ REFUSED = [
      b"poolDictionaries: '' category: ''!", ["F.st:2:13: x of B is there twice"]),
     ("a pool that nothing declares", [], b"Object subclass: #A instanceVariableNames: '' classVariableNames: '' "
      b"poolDictionaries: 'P' category: ''!", ["F.st:1:18: the pool P is declared nowhere"]),
+    ("a pool as an object", [], b"Object subclass: #A instanceVariableNames: '' classVariableNames: '' "
+     b"poolDictionaries: 'P' category: ''!\nSmalltalk at: #P put: Dictionary new!\nP keys!",
+     ["F.st:3:1: P is a pool, and no object here"]),
     ("a primitive", ["--from=squeak"], b"Object subclass: #A!\n!A methodsFor: 'x'!\nfoo\n\t<primitive: 60>\n\t^3! !",
      ["F.st:4:2: a primitive isn't here"]),
     ("a binding", ["--from=vw"], b"#{Core.Foo} value!", ["F.st:1:1: a literal binding isn't here"]),

@@ -339,6 +339,9 @@ class Walk:
 
     def _unknown(self, name: bytes, at: int) -> None:
         """A name that nothing declares: in statements of a file a global variable, in a method refused."""
+        if name in self.names.pools:
+            self._refuse(at, "%s is a pool, and no object here" % shown(name))
+            return
         if not self.scope.is_doit or name == b"Smalltalk":
             self._refuse(at, "%s is declared nowhere" % shown(name))
             return

@@ -37,6 +37,6 @@ class Library:
 def load(folder: Path = FOLDER) -> Library:
     """The library of a folder, empty where there is none."""
     library = Library()
-    for path in sorted(folder.rglob("*.sif")) if folder.is_dir() else []:
+    for path in sorted(folder.glob("*.sif")):
         library.take(read(path.read_bytes()))
     return library
