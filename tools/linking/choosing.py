@@ -93,7 +93,7 @@ class Choice:
     def entries(self) -> list[Entry]:
         """What was taken, in an order in which it may be declared: classes, then the rest."""
         taken = [entry for units in self.classes.values() for entry in units] + list(self.methods.values())
-        return sorted(taken, key=lambda entry: (entry.unit.kind is not UnitKind.CLASS, entry.number))
+        return sorted(taken, key=lambda entry: (entry.unit.kind is not UnitKind.CLASS, self.library.place(entry)))
 
     def _need(self, needs: Needs, where: bytes) -> None:
         """Notes what the text of a unit of a class names, and takes the classes of it."""

@@ -38,8 +38,7 @@ def said(added: list[Entry], tests: list[bytes]) -> list[str]:
     lines = []
     for file, entries in sorted(by_file.items()):
         classes = {entry.unit.name for entry in entries if entry.key is None}
-        shown = [entry.shown for entry in entries
-                 if entry.shown.startswith("class ") and entry.key is None or entry.unit.name not in classes]
+        shown = [entry.shown for entry in entries if entry.key is None or entry.unit.name not in classes]
         lines.append("link: of lib/%s: %s" % (file, ", ".join(dict.fromkeys(shown))))
     lines.extend("link: %s class>>testSelectors" % name.decode() for name in tests)
     return lines

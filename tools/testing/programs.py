@@ -3,10 +3,12 @@ from __future__ import annotations
 
 import subprocess
 from dataclasses import dataclass
+from functools import cached_property
 from pathlib import Path
 
 from interchange.chunks import chunks
 from interchange.elements import UnitKind
+from interchange.places import Lines
 from linking.library import Library, classes_above
 from linking.writing import Linked, Source, link, refusals, source
 
@@ -18,7 +20,7 @@ class Refused(Exception):
     """A file that isn't a program, and the lines that say why."""
 
 
-@dataclass(slots=True)
+@dataclass
 class TestProgram:
     """What was linked, and the classes of its tests."""
 
@@ -32,13 +34,12 @@ class TestProgram:
         lines += [b"%s suite run: lines." % name for name in self.classes]
         return self.linked.text + b"\n".join(lines) + b"\nlines end! !\n"
 
-    def place(self, name: bytes, selector: bytes) -> tuple[int, int] | None:
-        """Line and column of a test's method, None where the class inherits it."""
-        for unit in self.file.file.methods():
-            if unit.name == name and not unit.class_side and unit.parse()[0].selector == selector:
-                place = self.file.told(unit.text.text.trimmed().start, "").rsplit(":", 3)
-                return int(place[1]), int(place[2])
-        return None
+    @cached_property
+    def places(self) -> dict[tuple[str, str], tuple[int, int]]:
+        """Line and column of each method of the file but those of class sides, by class and selector."""
+        lines = Lines(self.file.data)
+        return {(unit.name.decode(), unit.parse()[0].selector.decode()): lines.place(unit.text.text.trimmed().start)
+                for unit in self.file.file.methods() if not unit.class_side}
 
     def told(self, element: int, byte: int, reason: str) -> str | None:
         """A refusal of the program as a line about a file, None where it speaks of no file of the program."""

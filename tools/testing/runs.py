@@ -105,7 +105,7 @@ def _outcomes(program: TestProgram, command: list[str]) -> list[Outcome]:
             run.running.text = run.report.removeprefix("stx: ").strip()
             found.append(run.running)
     for outcome in found:
-        outcome.place = program.place(outcome.class_name.encode(), outcome.selector.encode())
+        outcome.place = program.places.get((outcome.class_name, outcome.selector))
     return found
 
 
