@@ -37,6 +37,8 @@ def program(body: str) -> str:
 
 CASES = (
     Case("nothing is added where nothing is wanted", program("Transcript show: 3 printString"), writes="3"),
+    Case("a literal alone wants nothing", program("'ab' do: [:each | Transcript show: (each = $b) printString]"),
+         writes="falsetrue"),
     Case("a message that is sent", program("Transcript show: #(1 2) sum printString"), ("Collection>>sum",), writes="3"),
     Case("what is added may need more", program("Transcript show: #(1 2) average printString"),
          ("Collection>>sum", "Collection>>average"), writes="3/2"),

@@ -23,7 +23,7 @@ from .needs import Needs, needs_of
 _DECLARING = frozenset((UnitKind.CLASS, UnitKind.GLOBAL_VARIABLE, UnitKind.GLOBAL_CONSTANT, UnitKind.POOL))
 _BUILT_IN = frozenset(selector for _, _, selector in built_in_messages())
 _SENT_BY_LOOPS = (b"value:", b"value:value:")
-"""What built-in messages send to an object in the place of a block, though no text sends it."""
+"""What built-in messages send to an object in the place of a block, though no text sends it. A class is none."""
 _MADE_BY = {b"/": b"Fraction", b"->": b"Association"}
 """Classes whose objects are made by a message, without a name."""
 
@@ -72,7 +72,7 @@ class Choice:
             self.superclasses.setdefault(name, units[0].unit.superclass)
         self.classes: dict[bytes, list[Entry]] = {}
         self.methods: dict[Key, Entry] = {}
-        self.sent: set[bytes] = set(_SENT_BY_LOOPS)
+        self.sent: set[bytes] = set()
         self.seen: set[bytes] = set()
 
     def take_for(self, units: list[Unit]) -> None:
@@ -129,7 +129,7 @@ class Choice:
         count = -1
         while count != len(self.methods) + len(self.classes):
             count = len(self.methods) + len(self.classes)
-            for selector in sorted(self.sent & self.library.by_selector.keys()):
+            for selector in sorted(self.sent.union(_SENT_BY_LOOPS) & self.library.by_selector.keys()):
                 for key in self.library.by_selector[selector]:
                     if self._is_wanted(key):
                         self._take_method(key)
@@ -139,7 +139,9 @@ class Choice:
         name, class_side, selector = key
         if name in self.library.classes:
             return name in self.classes
-        return name in self.seen if class_side or selector in _BUILT_IN else True
+        if class_side:
+            return name in self.seen and selector in self.sent
+        return name in self.seen or selector not in _BUILT_IN
 
     def _is_replaced(self, key: Key) -> bool:
         """Whether the program defines the method itself, or for a built-in class above."""
