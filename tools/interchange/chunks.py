@@ -4,7 +4,7 @@ from __future__ import annotations
 from collections.abc import Iterator
 from dataclasses import dataclass
 
-from .places import WHITE, Text, undoubled
+from .places import WHITE, Text
 
 
 @dataclass(frozen=True)
@@ -43,7 +43,8 @@ def chunks(data: bytes) -> Iterator[Chunk]:
     at = 0
     while True:
         end = separator(data, at)
-        chunk = Chunk(undoubled(data, at, end, b"!"), number, at, end, end < len(data))
+        text = Text(data[at:end], at).undoubled(b"!")
+        chunk = Chunk(text, number, at, end, end < len(data))
         yield chunk
         if not chunk.ended:
             return

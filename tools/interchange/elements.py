@@ -123,8 +123,8 @@ def is_name(text: bytes) -> bool:
     return _NAME.match(text) is not None and text not in RESERVED
 
 
-def read(data: bytes) -> File:
-    """The units of an interchange file."""
+def read(data: bytes, lenient: bool = False) -> File:
+    """The units of an interchange file. A lenient reading takes names with white space around them, and `#'none'`."""
     file = File([], [])
     pending: Unit | None = None
     chunk = None
@@ -137,7 +137,7 @@ def read(data: bytes) -> File:
             pending.text = pending.last = chunk
             pending = None
             continue
-        unit = _element(file, chunk)
+        unit = _element(file, chunk, lenient)
         pending = unit if unit and unit.kind in METHODS | INITIALIZERS else None
     if pending is not None:
         _note(file, chunk, 0, "MissingText")
@@ -150,9 +150,9 @@ def _note(file: File, chunk: Chunk, at: int, reason: str) -> None:
     file.troubles.append(Trouble(chunk.number, at, reason, chunk.text.place(at)))
 
 
-def _element(file: File, chunk: Chunk) -> Unit | None:
+def _element(file: File, chunk: Chunk, lenient: bool) -> Unit | None:
     """Reads a header, comment or annotation into the file; the unit where it begins one."""
-    header = _Header(chunk)
+    header = _Header(chunk, lenient)
     try:
         if header.at_annotation():
             annotation = header.annotation()
@@ -184,8 +184,9 @@ class _Wrong(Exception):
 class _Header:
     """Reads the tokens of one header."""
 
-    def __init__(self, chunk: Chunk) -> None:
+    def __init__(self, chunk: Chunk, lenient: bool) -> None:
         self.chunk = chunk
+        self.lenient = lenient
         self.tokens = tokens_of(chunk.text.bytes).tokens
         self.tokens.append(Token(Kind.END, len(chunk.text.bytes), len(chunk.text.bytes), b""))
         self.index = 0
@@ -211,16 +212,20 @@ class _Header:
 
     def name(self) -> bytes:
         token = self.peek()
-        if token.kind is not Kind.STRING or not is_name(token.value):
+        if token.kind is not Kind.STRING or not is_name(self.trimmed(token.value)):
             self.fail()
-        return self.take(Kind.STRING).value
+        return self.trimmed(self.take(Kind.STRING).value)
+
+    def trimmed(self, text: bytes) -> bytes:
+        return text.strip(WHITE) if self.lenient else text
 
     def names(self) -> list[bytes]:
         token = self.peek()
         if token.kind is not Kind.STRING:
             self.fail()
-        names = _GAPS.split(token.value) if token.value.strip(WHITE) else []
-        if not all(map(is_name, names)) or (token.value and not names):
+        text = self.trimmed(token.value)
+        names = _GAPS.split(text) if text.strip(WHITE) else []
+        if not all(map(is_name, names)) or (text and not names):
             self.fail()
         return (self.take(Kind.STRING), names)[1]
 
@@ -284,9 +289,10 @@ class _Header:
         self.word(b"superclass:")
         unit.superclass = self.name()
         self.word(b"indexedInstanceVariables:")
-        if self.peek().text not in (b"#none", b"#object", b"#byte"):
+        kinds = (Kind.SYMBOL, Kind.QUOTED_SYMBOL) if self.lenient else (Kind.SYMBOL,)
+        if self.peek().kind not in kinds or self.peek().value not in (b"none", b"object", b"byte"):
             self.fail()
-        unit.indexed = self.take(Kind.SYMBOL).value
+        unit.indexed = self.take(self.peek().kind).value
         self.word(b"instanceVariableNames:")
         instance = self.names()
         self.word(b"classVariableNames:")

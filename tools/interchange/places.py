@@ -29,21 +29,19 @@ class Text:
         inside = tuple(skip - start for skip in self.skips[first:last])
         return Text(self.bytes[start:end], self.place(start), inside)
 
+    def undoubled(self, mark: bytes) -> Text:
+        """The text with each doubled `mark` (one byte) taken to one."""
+        if mark + mark not in self.bytes:
+            return self
+        pairs = [match.start() for match in re.finditer(re.escape(mark + mark), self.bytes)]
+        fresh = [pair - index for index, pair in enumerate(pairs)]
+        kept = [skip - bisect_left(pairs, skip) for skip in self.skips]
+        return Text(self.bytes.replace(mark + mark, mark), self.start, tuple(sorted(fresh + kept)))
+
     def trimmed(self) -> Text:
         """The text without white space at its ends."""
         start = len(self.bytes) - len(self.bytes.lstrip(WHITE))
         return self.part(start, max(start, len(self.bytes.rstrip(WHITE))))
-
-
-def undoubled(data: bytes, start: int, end: int, mark: bytes) -> Text:
-    """The part of `data` between two offsets, with each doubled `mark` (one byte) taken to one."""
-    raw = data[start:end]
-    if mark not in raw:
-        return Text(raw, start)
-    skips = []
-    for match in re.finditer(re.escape(mark + mark), raw):
-        skips.append(match.start() - len(skips))
-    return Text(raw.replace(mark + mark, mark), start, tuple(skips))
 
 
 class Lines:

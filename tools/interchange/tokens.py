@@ -53,6 +53,7 @@ class Dialect:
     foreign: bool = False
     underscore_assigns: bool = False
     dotted_names: bool = False
+    digit_groups: bool = False
     bang_ends: bool = False
 
 
@@ -89,10 +90,12 @@ _KEYWORDS = re.compile(rb"(?:[A-Za-z_][A-Za-z0-9_]*:(?!=))+")
 _OPERATORS = re.compile(rb"[!%&*+,/<>=?@\\~|\-]+")
 _RADIX = re.compile(rb"([0-9]+)r([0-9A-Z]*)")
 _DIGITS = re.compile(rb"[0-9]+")
-_FOREIGN_INTEGER = re.compile(rb"([0-9]+(?:_[0-9]+)*)(?:r(-?)([0-9A-Z]+(?:_[0-9A-Z]+)*))?")
+_FOREIGN_INTEGER = re.compile(rb"([0-9]+)(?:r(-?)([0-9A-Z]+))?")
+_GROUPED_INTEGER = re.compile(rb"([0-9]+(?:_[0-9]+)*)(?:r(-?)([0-9A-Z]+(?:_[0-9A-Z]+)*))?")
 _FRACTION = re.compile(rb"\.[0-9][0-9A-Z]*")
 _EXPONENT = re.compile(rb"[edq](-?)([0-9]+)")
 _SCALE = re.compile(rb"s[0-9]*(?![A-Za-z0-9_])")
+_UTF_8 = re.compile(rb"[\xc2-\xf4][\x80-\xbf]+")
 _SIGNS = {kind.value.encode(): kind for kind in (
     Kind.PAREN_OPEN, Kind.PAREN_CLOSE, Kind.BLOCK_OPEN, Kind.BLOCK_CLOSE, Kind.CARET, Kind.PERIOD, Kind.SEMICOLON)}
 _BRACES = {b"{": Kind.BRACE_OPEN, b"}": Kind.BRACE_CLOSE}
@@ -165,7 +168,7 @@ class _Reader:
         if sign == b"$":
             if at + 1 == len(self.text):
                 return self.fault(at, "BadCharacter")
-            return self.made(Kind.CHARACTER, at, at + 2, self.text[at + 1])
+            return self.made(Kind.CHARACTER, at, self.character_end(at), self.text[at + 1])
         if sign == b"'":
             return self.quoted(Kind.STRING, at, at)
         if sign == b"#":
@@ -178,6 +181,11 @@ class _Reader:
         if sign in _BRACES and self.dialect.foreign:
             return self.made(_BRACES[sign], at, at + 1)
         return self.fault(at, "BadCharacter")
+
+    def character_end(self, at: int) -> int:
+        """A character is one byte; in a foreign text the bytes of one in UTF-8 are taken together."""
+        found = _UTF_8.match(self.text, at + 1) if self.dialect.foreign else None
+        return found.end() if found else at + 2
 
     def word(self, at: int) -> Token:
         form = _DOTTED if self.dialect.dotted_names else _IDENTIFIER
@@ -248,7 +256,7 @@ class _Reader:
 
     def foreign_number(self, at: int) -> Token:
         """A number as other Smalltalks write it. An INTEGER's value may be negative (16r-1F) or have an exponent."""
-        found = _FOREIGN_INTEGER.match(self.text, at)
+        found = (_GROUPED_INTEGER if self.dialect.digit_groups else _FOREIGN_INTEGER).match(self.text, at)
         end = found.end()
         radix = 10
         figures = found[1]
