@@ -1,4 +1,5 @@
-"""Runs checks one after another, and judges what each of them says."""
+"""Runs checks, and judges what each of them says."""
+import concurrent.futures
 import dataclasses
 import os
 import re
@@ -71,9 +72,10 @@ def run(command: str, seconds: float) -> Result:
     return Result(name, kind, why, time.monotonic() - began)
 
 
-def run_all(commands: Iterable[str], ends: float, most: float) -> list[Result]:
-    """Runs checks, each for at most so many seconds, and all of them up to a moment."""
-    return [run(command, min(most, ends - time.monotonic())) for command in commands]
+def run_all(commands: Iterable[str], ends: float, most: float, lanes: int = 1) -> list[Result]:
+    """Runs checks in so many lanes, each check for at most so many seconds, and all of them up to a moment."""
+    with concurrent.futures.ThreadPoolExecutor(lanes) as pool:
+        return list(pool.map(lambda command: run(command, min(most, ends - time.monotonic())), commands))
 
 
 def summary(results: list[Result]) -> int:

@@ -1,21 +1,14 @@
 """The text of an open file, with positions as the protocol counts them: lines, and UTF-16 units in a line."""
 import bisect
+import re
 from typing import Any
 
-LINE_ENDS = ("\r\n", "\n", "\r")
+LINE_END = re.compile("\r\n|\n|\r")
 
 
 def starts_of(text: str) -> list[int]:
     """Where each line of a text begins. A line ends with CR LF, LF or CR."""
-    starts = [0]
-    place = 0
-    while True:
-        newline, carriage = text.find("\n", place), text.find("\r", place)
-        found = [end for end in (newline, carriage) if end >= 0]
-        if not found:
-            return starts
-        place = min(found) + (2 if text.startswith("\r\n", min(found)) else 1)
-        starts.append(place)
+    return [0, *(found.end() for found in LINE_END.finditer(text))]
 
 
 def units_of(text: str) -> int:

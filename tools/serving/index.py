@@ -7,7 +7,7 @@ from dataclasses import dataclass
 
 from interchange import builtins
 from interchange.chunks import Chunk
-from interchange.elements import INITIALIZERS, METHODS, Unit, UnitKind, read
+from interchange.elements import METHODS, Unit, UnitKind, read
 from interchange.tokens import Kind, Token, tokens_of
 from serving.texts import Analysis, Span, analysis
 
@@ -43,7 +43,6 @@ class Index:
         self.classes = self.file.classes()
         self.pools: dict[bytes, set[bytes]] = {}
         self.globals: set[bytes] = set()
-        self.occurrences: list[Occurrence] = []
         self.seen: dict[tuple[bytes, bool], Names] = {}
         for unit in self.units:
             if unit.kind is UnitKind.POOL:
@@ -52,70 +51,76 @@ class Index:
                 self.pools.setdefault(unit.pool, set()).add(unit.name)
             elif unit.kind in GLOBALS:
                 self.globals.add(unit.name)
+
+    @functools.cached_property
+    def common(self) -> dict[bytes, Key]:
+        """The names that can be seen from everywhere."""
+        found: dict[bytes, Key] = {name: ("class", name) for name in (*builtins.classes(), *self.classes)}
+        found[b"Transcript"] = ("Transcript",)
+        found.update((name, ("global", name)) for name in self.globals)
+        return found
+
+    # what stands in headers and texts
+
+    @functools.cached_property
+    def occurrences(self) -> list[Occurrence]:
+        """All names and selectors of the file."""
+        found: list[Occurrence] = []
         for number, unit in enumerate(self.units):
-            self.header(number, unit)
+            found += self.header(number, unit)
             if unit.text is not None:
-                self.text(number, unit, unit.text)
+                found += self.text(number, unit, unit.text)
+        return found
 
-    # what stands in headers
+    def header(self, number: int, unit: Unit) -> list[Occurrence]:
+        """The names of a unit's header."""
+        place = unit.header.text.place
+        return [
+            Occurrence(key, ((place(start), place(end)),), role, number)
+            for key, (start, end), role in self.header_names(unit)
+        ]
 
-    def add(self, key: Key, chunk: Chunk, span: Span, role: str, unit: int) -> None:
-        """Notes a name of a header."""
-        place = (chunk.text.place(span[0]), chunk.text.place(span[1]))
-        self.occurrences.append(Occurrence(key, (place,), role, unit))
-
-    def header(self, number: int, unit: Unit) -> None:
-        """Notes the names of a unit's header."""
+    def header_names(self, unit: Unit) -> list[tuple[Key, Span, str]]:
+        """What the names of a unit's header stand for, where each stands in the header's text, and its role."""
         tokens = header_tokens(unit.header.text.bytes)
         if unit.kind is UnitKind.CLASS:
-            self.class_header(number, unit, tokens)
-            return
+            return class_names(unit, tokens)
         strings = [token for token in tokens if token.kind is Kind.STRING]
+        first = (tokens[0].start, tokens[0].end) if tokens else (0, 0)
         if unit.kind in GLOBALS:
-            self.add(("global", unit.name), unit.header, inner(strings[0]), "declares", number)
-        elif unit.kind is UnitKind.POOL:
-            self.add(("pool", unit.name), unit.header, inner(strings[0]), "declares", number)
-        elif unit.kind in POOLED or unit.kind is UnitKind.POOL_INITIALIZER:
+            return [(("global", unit.name), inner(strings[0]), "declares")]
+        if unit.kind is UnitKind.POOL:
+            return [(("pool", unit.name), inner(strings[0]), "declares")]
+        if unit.kind in POOLED or unit.kind is UnitKind.POOL_INITIALIZER:
             role = "declares" if unit.kind in POOLED else "assigns"
-            self.add(("pool", unit.pool), unit.header, (tokens[0].start, tokens[0].end), "reads", number)
-            self.add(("pool variable", unit.pool, unit.name), unit.header, inner(strings[0]), role, number)
-        elif unit.kind in METHODS or unit.kind is UnitKind.INITIALIZER:
-            key = ("global", unit.name) if unit.name in self.globals else ("class", unit.name)
-            role = "reads" if unit.kind in METHODS or key[0] == "class" else "assigns"
-            self.add(key, unit.header, (tokens[0].start, tokens[0].end), role, number)
+            variable = (("pool variable", unit.pool, unit.name), inner(strings[0]), role)
+            return [(("pool", unit.pool), first, "reads"), variable]
+        if unit.kind is UnitKind.INITIALIZER and unit.name in self.globals:
+            return [(("global", unit.name), first, "assigns")]
+        if unit.kind in METHODS or unit.kind is UnitKind.INITIALIZER:
+            return [(("class", unit.name), first, "reads")]
+        return []
 
-    def class_header(self, number: int, unit: Unit, tokens: list[Token]) -> None:
-        """Notes the names of a class element."""
-        name, above, instance, shared, pools, own = [token for token in tokens if token.kind is Kind.STRING]
-        self.add(("class", unit.name), unit.header, inner(name), "declares", number)
-        self.add(("class", unit.superclass), unit.header, inner(above), "reads", number)
-        for token, kind in ((instance, "instance variable"), (shared, "class variable"), (own, "class instance variable")):
-            for word, span in words(token):
-                self.add((kind, unit.name, word), unit.header, span, "declares", number)
-        for word, span in words(pools):
-            self.add(("pool", word), unit.header, span, "reads", number)
-
-    # what stands in texts
-
-    def text(self, number: int, unit: Unit, chunk: Chunk) -> None:
-        """Notes what stands in a method or body."""
-        found = self.analysis(unit)
+    def text(self, number: int, unit: Unit, chunk: Chunk) -> list[Occurrence]:
+        """The names and selectors of a method or body."""
+        analysis = self.analysis(unit)
         place = chunk.text.place
 
         def at(spans: tuple[Span, ...]) -> tuple[Span, ...]:
             return tuple((place(start), place(end)) for start, end in spans)
 
-        add = self.occurrences.append
-        if found.pattern:
-            add(Occurrence(selector(found.selector), at(found.pattern), "implements", number))
-        for send in found.sends:
-            add(Occurrence(selector(send.selector), at(send.parts), "sends", number))
-        for symbol, span in found.symbols:
-            add(Occurrence(selector(symbol), at((span,)), "names", number))
+        found: list[Occurrence] = []
+        if analysis.pattern:
+            found.append(Occurrence(selector(analysis.selector), at(analysis.pattern), "implements", number))
+        for send in analysis.sends:
+            found.append(Occurrence(selector(send.selector), at(send.parts), "sends", number))
+        for symbol, span in analysis.symbols:
+            found.append(Occurrence(selector(symbol), at((span,)), "names", number))
         names = self.seen_from(unit)
-        for use in found.uses:
+        for use in analysis.uses:
             key = ("local", number, use.scope, use.name) if use.scope is not None else names.key(use.name)
-            add(Occurrence(key, at((use.span,)), use.role, number))
+            found.append(Occurrence(key, at((use.span,)), use.role, number))
+        return found
 
     def analysis(self, unit: Unit) -> Analysis:
         """What stands in the text of a unit."""
@@ -140,7 +145,9 @@ class Index:
 
     def names(self, of: bytes, class_side: bool) -> "Names":
         """The names that a side of a class sees."""
-        return self.seen.setdefault((of, class_side), Names(self, of, class_side))
+        if (of, class_side) not in self.seen:
+            self.seen[of, class_side] = Names(self, of, class_side)
+        return self.seen[of, class_side]
 
     # what is asked
 
@@ -185,35 +192,40 @@ class Names:
         self.classes = index.above(of)
         self.kind = "class instance variable" if class_side else "instance variable"
 
-    def declared(self) -> dict[bytes, Key]:
-        """All names that can be seen, with what each stands for."""
+    @functools.cached_property
+    def own(self) -> dict[bytes, Key]:
+        """The names that can be seen from here alone: variables of the class and of those above, and of their pools."""
         found: dict[bytes, Key] = {}
-        for name in (*builtins.classes(), *self.index.classes):
-            found[name] = ("class", name)
-        found[b"Transcript"] = ("Transcript",)
-        for name in self.index.globals:
-            found[name] = ("global", name)
-        for name in reversed(self.classes):
-            unit = self.index.classes.get(name)
-            if unit:
-                for pool in reversed(unit.names.pools):
-                    found.update((word, ("pool variable", pool, word)) for word in self.index.pools.get(pool, ()))
-                found.update((word, ("class variable", name, word)) for word in unit.names.class_variables)
-        for name in reversed(self.classes):
-            unit = self.index.classes.get(name)
-            if unit:
-                own = unit.names.class_instance if self.kind.startswith("class") else unit.names.instance
-                found.update((word, (self.kind, name, word)) for word in own)
+        units = [self.index.classes[name] for name in reversed(self.classes) if name in self.index.classes]
+        for unit in units:
+            for pool in reversed(unit.names.pools):
+                found.update((word, ("pool variable", pool, word)) for word in self.index.pools.get(pool, ()))
+            found.update((word, ("class variable", unit.name, word)) for word in unit.names.class_variables)
+        for unit in units:
+            words = unit.names.class_instance if self.kind.startswith("class") else unit.names.instance
+            found.update((word, (self.kind, unit.name, word)) for word in words)
         return found
 
     def key(self, name: bytes) -> Key:
         """What a name stands for; one that nothing declares stands for itself."""
-        return self.all.get(name, ("unknown", name))
+        return self.own.get(name) or self.index.common.get(name) or ("unknown", name)
 
-    @functools.cached_property
+    @property
     def all(self) -> dict[bytes, Key]:
         """All names that can be seen."""
-        return self.declared()
+        return {**self.index.common, **self.own}
+
+
+def class_names(unit: Unit, tokens: list[Token]) -> list[tuple[Key, Span, str]]:
+    """What the names of a class element stand for, where each stands, and its role."""
+    name, above, instance, shared, pools, own = [token for token in tokens if token.kind is Kind.STRING]
+    found: list[tuple[Key, Span, str]] = [
+        (("class", unit.name), inner(name), "declares"),
+        (("class", unit.superclass), inner(above), "reads"),
+    ]
+    for token, kind in ((instance, "instance variable"), (shared, "class variable"), (own, "class instance variable")):
+        found += [((kind, unit.name, word), span, "declares") for word, span in words(token)]
+    return found + [(("pool", word), span, "reads") for word, span in words(pools)]
 
 
 @functools.lru_cache(maxsize=65536)

@@ -34,7 +34,11 @@ class Use:
 
 @dataclass(slots=True)
 class Analysis:
-    """What stands in a text, with offsets in it. `pattern` is where the parts of a method's selector stand."""
+    """What stands in a text, with offsets in it.
+
+    `pattern` is where the parts of a method's selector stand. `sent` are all selectors, `read` the names of the surroundings
+    that are read, `idle` the temporaries that never are.
+    """
 
     selector: bytes = b""
     pattern: tuple[Span, ...] = ()
@@ -42,8 +46,9 @@ class Analysis:
     symbols: list[tuple[bytes, Span]] = field(default_factory=list)
     uses: list[Use] = field(default_factory=list)
     scopes: list[tuple[Span, tuple[bytes, ...]]] = field(default_factory=list)
-    faults: int = 0
-    is_empty: bool = False
+    sent: frozenset[bytes] = frozenset()
+    read: frozenset[bytes] = frozenset()
+    idle: tuple[Use, ...] = ()
 
 
 def spans(tokens: list[Token]) -> tuple[Span, ...]:
@@ -154,6 +159,17 @@ def analysis(text: bytes, is_method: bool) -> Analysis:
     declared = [(name, "parameter") for name in parameters] + [(name, "temporary") for name in body.temporaries]
     walk.scope((0, len(text)), declared)
     walk.body(body)
-    found.faults = len(parser.faults)
-    found.is_empty = not body.statements
+    summed_up(found)
     return found
+
+
+def summed_up(found: Analysis) -> None:
+    """Notes what is sent, which names of the surroundings are read, and which temporaries never are."""
+    found.sent = frozenset(send.selector for send in found.sends)
+    found.read = frozenset(use.name for use in found.uses if use.scope is None and use.role == "reads")
+    own = {(use.scope, use.name) for use in found.uses if use.role == "reads"}
+    found.idle = tuple(
+        use
+        for use in found.uses
+        if use.role == "declares" and use.kind == "temporary" and (use.scope, use.name) not in own
+    )

@@ -4,11 +4,14 @@ from __future__ import annotations
 from collections.abc import Callable, Iterator
 from typing import Any
 
-from interchange import builtins
 from interchange.elements import INITIALIZERS, Unit, UnitKind
 from serving.ways import View, selectors, text_of
 
 WARNING = 2
+VARIABLES = ("instance variable", "class instance variable", "class variable", "global", "pool variable")
+DECLARING = (
+    UnitKind.CLASS, UnitKind.GLOBAL_VARIABLE, UnitKind.GLOBAL_CONSTANT, UnitKind.POOL_VARIABLE, UnitKind.POOL_CONSTANT,
+)
 IsOld = Callable[[], bool]
 
 
@@ -20,27 +23,32 @@ def warning(view: View, span: tuple[int, int], text: str, code: str) -> dict[str
 def unanswered(view: View) -> Iterator[dict[str, Any]]:
     """Selectors that no class here answers."""
     known = selectors(view.index)
-    for one in view.index.occurrences:
-        if one.role == "sends" and one.key[1] not in known:
-            text = "no class here answers `%s`" % text_of(one.key[1])
-            yield warning(view, one.spans[0], text, "unanswered")
+    for unit in (unit for unit in view.index.units if unit.text):
+        found = view.index.analysis(unit)
+        if found.sent <= known:
+            continue
+        place = unit.text.text.place
+        for send in (send for send in found.sends if send.selector not in known):
+            span = (place(send.parts[0][0]), place(send.parts[0][1]))
+            yield warning(view, span, "no class here answers `%s`" % text_of(send.selector), "unanswered")
 
 
 def unread(view: View) -> Iterator[dict[str, Any]]:
-    """Variables that are never read. Parameters may go unread."""
-    kinds = ("instance variable", "class instance variable", "class variable", "global", "pool variable")
-    for key, places in view.index.by_key.items():
-        declared = next((one for one in places if one.role == "declares"), None)
-        if declared is None or any(one.role == "reads" for one in places):
-            continue
-        if key[0] in kinds or (key[0] == "local" and is_temporary(view, declared.unit, key)):
-            yield warning(view, declared.spans[0], "`%s` is never read" % text_of(key[-1]), "unread")
-
-
-def is_temporary(view: View, number: int, key: tuple[object, ...]) -> bool:
-    """Whether a name of a text is a temporary."""
-    uses = view.index.analysis(view.index.units[number]).uses
-    return any(use.kind == "temporary" and use.scope == key[2] and use.name == key[3] for use in uses)
+    """Variables and temporaries that are never read. Parameters may go unread."""
+    read = {
+        view.index.seen_from(unit).key(name)
+        for unit in view.index.units
+        if unit.text
+        for name in view.index.analysis(unit).read
+    }
+    for unit in view.index.units:
+        place = unit.header.text.place
+        for key, (start, end), role in view.index.header_names(unit) if unit.kind in DECLARING else ():
+            if role == "declares" and key[0] in VARIABLES and key not in read:
+                yield warning(view, (place(start), place(end)), "`%s` is never read" % text_of(key[-1]), "unread")
+        for use in view.index.analysis(unit).idle if unit.text else ():
+            span = (unit.text.text.place(use.span[0]), unit.text.text.place(use.span[1]))
+            yield warning(view, span, "`%s` is never read" % text_of(use.name), "unread")
 
 
 def overridden(view: View, unit: Unit, methods: dict[tuple[bytes, bool, bytes], Unit]) -> Unit | None:
@@ -55,12 +63,12 @@ def repeated(view: View) -> Iterator[dict[str, Any]]:
     methods = {
         (unit.name, unit.class_side, view.index.analysis(unit).selector): unit for unit in view.index.file.methods()
     }
-    for one in (one for one in view.index.occurrences if one.role == "implements"):
-        unit = view.index.units[one.unit]
+    for unit in (unit for unit in methods.values() if unit.text and view.index.analysis(unit).pattern):
         other = overridden(view, unit, methods)
-        if other and other.text and unit.text and other.text.text.bytes.split() == unit.text.text.bytes.split():
-            text = "%s has this method word for word" % text_of(other.name)
-            yield warning(view, one.spans[0], text, "repeated")
+        if other and other.text and other.text.text.bytes.split() == unit.text.text.bytes.split():
+            start, end = view.index.analysis(unit).pattern[0]
+            span = (unit.text.text.place(start), unit.text.text.place(end))
+            yield warning(view, span, "%s has this method word for word" % text_of(other.name), "repeated")
 
 
 def idle(view: View) -> Iterator[dict[str, Any]]:
