@@ -2,9 +2,9 @@
 
 - A class of the library is taken, with all methods of its file, where a text names it and the program doesn't declare
   that name.
-- A method that the library gives another class is taken where its selector is sent, or stands as a symbol. For a class of
-  the library that class must be taken. On the class side, and where a built-in class answers the selector already, as
-  with `value:` or `+`, the class must be seen: a text names it or a class under it, or a literal of it stands there.
+- A method that the library gives another class is taken where its selector is sent, or stands as a symbol. For a class
+  of the library that class must be taken. On the class side a text must name the class or one under it. Where a
+  built-in class answers the selector already, as with `value:` or `+`, a text must name it so or have a literal of it.
 - What a program defines itself stays: neither that method is taken, nor one of the selector for a class under it.
 - What is taken may name more.
 - Of a file that is wished for, everything is taken; methods of classes of the library where the class is taken.
@@ -73,6 +73,7 @@ class Choice:
         self.classes: dict[bytes, list[Entry]] = {}
         self.methods: dict[Key, Entry] = {}
         self.sent: set[bytes] = set()
+        self.named: set[bytes] = set()
         self.seen: set[bytes] = set()
 
     def take_for(self, units: list[Unit]) -> None:
@@ -84,6 +85,11 @@ class Choice:
         for unit in units:
             self._need(needs_of(unit), unit.name)
         self._take_sent()
+
+    def is_late(self, entry: Entry) -> bool:
+        """Whether a unit is of a class under one that the program declares, and so stands behind the program."""
+        name = entry.unit.name
+        return name in self.classes and not self.program.names.isdisjoint(classes_above(name, self.superclasses))
 
     def answered(self) -> set[bytes]:
         """The selectors that some class of the linked program has."""
@@ -101,7 +107,7 @@ class Choice:
         for name in classes_above(where, self.superclasses):
             hidden |= self.program.variables.get(name, set())
         for name in needs.names - hidden:
-            self.seen.update(classes_above(name, self.superclasses))
+            self.named.update(classes_above(name, self.superclasses))
             self._take_class(name)
         made = {_MADE_BY[selector] for selector in needs.sent.keys() & _MADE_BY.keys()}
         if b"Transcript" in needs.names:
@@ -114,7 +120,7 @@ class Choice:
         if name in self.program.names or name in self.classes or name not in self.library.classes:
             return
         self.classes[name] = self.library.classes[name]
-        self.seen.update(classes_above(name, self.superclasses))
+        self.named.update(classes_above(name, self.superclasses))
         for entry in self.classes[name]:
             self._need(entry.needs, name)
 
@@ -140,8 +146,8 @@ class Choice:
         if name in self.library.classes:
             return name in self.classes
         if class_side:
-            return name in self.seen and selector in self.sent
-        return name in self.seen or selector not in _BUILT_IN
+            return name in self.named and selector in self.sent
+        return selector not in _BUILT_IN or name in self.seen or name in self.named
 
     def _is_replaced(self, key: Key) -> bool:
         """Whether the program defines the method itself, or for a built-in class above."""

@@ -10,8 +10,8 @@ from .writing import Source, link, refusals, source
 
 ABOUT = """Makes one interchange file of several, with what they need of the library, and writes it to standard output.
 
-What was added of the library is said on standard error, and so is each message that is sent and that no class has. Where
-a file has faults, they are said there as FILE:LINE:COLUMN: Reason, nothing is written, and the status is 1."""
+What was added of the library is said on standard error, and so is each message that is sent and that no class has.
+Where a file has faults, they are said there as FILE:LINE:COLUMN: Reason, nothing is written, and the status is 1."""
 
 
 def words(arguments: list[str]) -> argparse.Namespace:

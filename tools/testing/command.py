@@ -18,11 +18,11 @@ from .runs import Ending, FileReport, NoProgram, run_file
 
 ABOUT = """Runs the tests of files, and says how each ended.
 
-A file is an interchange file, or one that tools/convert reads. Of a folder each .sif file within is taken, and where there
-is none the folder is given to tools/convert as a whole. The tests are those of the classes under TestCase.
+A file is an interchange file, or one that tools/convert reads. Of a folder each .sif file within is taken, and where
+there is none the folder is given to tools/convert as a whole. The tests are those of the classes under TestCase.
 
-The status is 0 where all tests passed or were skipped, 1 where one didn't or a file couldn't be run, 2 for a faulty command
-line, and 3 where there was no test."""
+The status is 0 where all tests passed or were skipped, 1 where one didn't or a file couldn't be run, 2 for a faulty
+command line, and 3 where there was no test."""
 LINES = "test-lines"
 
 
@@ -80,7 +80,8 @@ def run_all(given: argparse.Namespace, found: Library) -> list[FileReport]:
         for report in pool.map(lambda path: run_file(path, given.uses, found, command), files):
             reports.append(report)
             if shows:
-                print("\r\x1b[K%d of %d: %s" % (len(reports), len(files), totals(reports)), end="", file=sys.stderr, flush=True)
+                line = "\r\x1b[K%d of %d: %s" % (len(reports), len(files), totals(reports))
+                print(line, end="", file=sys.stderr, flush=True)
     if shows:
         print("\r\x1b[K", end="", file=sys.stderr)
     return reports

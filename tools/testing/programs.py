@@ -36,7 +36,10 @@ class TestProgram:
 
     @cached_property
     def places(self) -> dict[tuple[str, str], tuple[int, int]]:
-        """Line and column of each method of the file but those of class sides, by class and selector."""
+        """Line and column of each method of the file but those of class sides, by class and selector. None are told of
+        what was converted."""
+        if self.file.name.endswith(", converted"):
+            return {}
         lines = Lines(self.file.data)
         return {(unit.name.decode(), unit.parse()[0].selector.decode()): lines.place(unit.text.text.trimmed().start)
                 for unit in self.file.file.methods() if not unit.class_side}
@@ -66,9 +69,16 @@ def interchange_of(path: Path) -> bytes:
     return run.stdout
 
 
+def _source_of(path: Path) -> Source:
+    """A file of the program. Places in what was converted aren't those of the file, and say so."""
+    data = interchange_of(path)
+    is_own = path.is_file() and path.read_bytes() == data
+    return source(str(path) if is_own else "%s, converted" % path, data)
+
+
 def test_program(path: Path, uses: list[Path], library: Library) -> TestProgram | None:
     """The program for the tests of a file, with the files that it is used with; None where it has no tests."""
-    sources = [source(str(one), interchange_of(one)) for one in (*uses, path)]
+    sources = [_source_of(one) for one in (*uses, path)]
     refused = [line for one in sources for line in refusals(one)]
     if refused:
         raise Refused("\n".join(refused))
