@@ -1,12 +1,20 @@
 """What the comparisons share: the independent implementation, the program, and cases run side by side."""
 import argparse
+import collections
 import concurrent.futures
 import functools
 import os
 import subprocess
 import sys
+import time
 
 TOP = os.path.dirname(os.path.dirname(os.path.abspath(__file__)))
+# how many seconds a comparison may take new cases, where it is bounded
+SECONDS = "STX_SECONDS"
+# how many cases are waited for at a time, for each processor
+AHEAD = 2
+# the seconds after which a run is killed
+LONGEST = 60
 
 
 def options_of(count, text):
@@ -19,10 +27,12 @@ def options_of(count, text):
 
 def has_oracle(name):
     """Whether the variable STX_ORACLE names the folder of the independent implementation, which is then imported from."""
-    folder = os.path.join(TOP, os.environ.get("STX_ORACLE", ""))
-    if not os.environ.get("STX_ORACLE") or not os.path.isdir(folder):
-        print("%s: skipped, STX_ORACLE names no folder" % name)
+    if not os.environ.get("STX_ORACLE"):
+        print("%s: skipped, STX_ORACLE isn't set" % name)
         return False
+    folder = os.path.join(TOP, os.environ["STX_ORACLE"])
+    if not os.path.isdir(folder):
+        sys.exit("%s: STX_ORACLE names %s, which is no folder" % (name, folder))
     sys.path.insert(0, folder)
     sys.setrecursionlimit(100_000)
     return True
@@ -30,13 +40,15 @@ def has_oracle(name):
 
 @functools.lru_cache
 def program():
-    """Where the built program stands."""
-    build = os.path.join(TOP, "tools", "build")
-    return subprocess.run([build], stdout=subprocess.PIPE, text=True, check=True).stdout.strip()
+    """Where the built program stands. Where there is none of these sources, nothing is built, and the caller ends."""
+    found = subprocess.run([os.path.join(TOP, "tools", "program")], stdout=subprocess.PIPE, text=True, check=False)
+    return found.stdout.strip() if found.returncode == 0 else sys.exit(1)
 
 
 def answer(words, data, cuts=()):
-    """The status, output and report of the program for an input that is written in the pieces that the cuts make."""
+    """The status, output and report of the program for an input that is written in the pieces that the cuts make.
+
+    Where it hasn't ended after a minute it is killed, and the report says so."""
     with subprocess.Popen(words, stdin=subprocess.PIPE, stdout=subprocess.PIPE, stderr=subprocess.PIPE) as run:
         try:
             last = 0
@@ -46,19 +58,43 @@ def answer(words, data, cuts=()):
                 last = cut
         except BrokenPipeError:
             last = len(data)
-        out, report = run.communicate(data[last:], timeout=60)
+        try:
+            out, report = run.communicate(data[last:], timeout=LONGEST)
+        except subprocess.TimeoutExpired:
+            run.kill()
+            out, report = run.communicate()
+            report += b"it hadn't ended after %d seconds" % LONGEST
     return run.returncode, out, report
 
 
+def results(pool, differs, cases):
+    """What each case comes to, in their order. Where there is a bound of time, no case but the first is begun past it."""
+    ends = time.monotonic() + float(os.environ.get(SECONDS, "inf"))
+    waiting = collections.deque()
+    for case in cases:
+        waiting.append(pool.submit(differs, case))
+        if len(waiting) >= AHEAD * os.cpu_count():
+            yield waiting.popleft().result()
+        if time.monotonic() > ends:
+            break
+    while waiting:
+        yield waiting.popleft().result()
+
+
 def compare(name, cases, differs, workers=concurrent.futures.ThreadPoolExecutor):
-    """Runs all cases, prints the first differences, and gives the status."""
+    """Runs all cases that there is time for, prints the first differences, and gives the status."""
     failed = compared = 0
     with workers(os.cpu_count()) as pool:
-        for found in pool.map(differs, cases):
+        for found in results(pool, differs, cases):
             compared += 1
             if found:
                 failed += 1
                 if failed <= 20:
                     print(found)
-    print("%s: %d cases compared, %d differences" % (name, compared, failed))
-    return 1 if failed else 0
+    return ended(name, compared - failed, failed)
+
+
+def ended(name, passed, failed):
+    """Prints the last line of a check, and gives its status: a check that tried nothing fails."""
+    print("%s: %d passed, %d failed" % (name, passed, failed))
+    return 0 if passed and not failed else 1

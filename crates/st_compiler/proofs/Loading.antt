@@ -1,5 +1,5 @@
 -- Units defined one behind the other.
-use Rattle.std.proofs.Common.{◌≡◌, ℕ, ◌+◌, ◌<◌, ◌≤◌, List, [], ◌∷◌, ◌++◌, map, drop, length, get_or, Option, Some, None, refl, ap, sym, ◌∙◌, append_assoc, append-nil}
+use Rattle.std.proofs.Common.{◌≡◌, ℕ, ◌+◌, ◌<◌, ◌≤◌, List, [], ◌∷◌, ◌++◌, map, drop, length, get_or, Option, Some, None, Result, Ok, Err, IfOk, refl, ap, sym, ◌∙◌, append_assoc, append-nil}
 use Rattle.std.proofs.lemmas.List.{drop_all, length-map}
 use Rattle.st_tree.specs.declared.units.Unit.{Unit}
 use Rattle.st_code.specs.Named.{NamedUnit}
@@ -7,13 +7,16 @@ use Rattle.st_code.specs.Written.{named_unit, named_units, with_named}
 use Rattle.st_code.specs.Resolved.{Names}
 use Rattle.st_code.specs.Definitions.{Defined, nothing_defined, defined_units, RunLimits, program_of}
 use Rattle.st_code.specs.Program.{Initializer}
-use Rattle.st_code.specs.Compiled.{Compiled}
+use Rattle.st_code.specs.Compiled.{Compiled, seen_code}
+use Rattle.st_base.specs.declared.faults.OutOfMemory.{OutOfMemory}
 use Rattle.program_image.specs.Images.{image_names}
 use Rattle.program_image.specs.Finding.{defined_kind, codes_from, unit_codes, program_of_image}
 use Rattle.st_compiler.specs.declared.draft.DraftBody.{DraftBody}
 use Rattle.st_compiler.specs.declared.units.Defining.{Defining}
-use Rattle.st_compiler.specs.Drafted.{drafted, Holds}
-use Rattle.st_compiler.specs.Loading.{defined_file, IsLoaded}
+use Rattle.st_compiler.specs.declared.units.Definitions.{Definitions}
+use Rattle.st_compiler.specs.declared.loaded.Parts.{Parts}
+use Rattle.st_compiler.specs.Drafted.{drafted, seen_initializer, Holds}
+use Rattle.st_compiler.specs.Loading.{defined_file, IsBuilt, IsDefined, IsLoaded, IsParts}
 use Rattle.st_compiler.specs.Placed.{compiled_drafts}
 use Rattle.st_compiler.proofs.Finding.{drop-here}
 use Rattle.st_compiler.proofs.Compiling.{compiled-same}
@@ -100,3 +103,8 @@ loaded units drafts codes by_unit starters literals are is numbers begin count =
       initializers = λ limits. begin ∙ sym (program-initializers units limits);
       literals = λ limits. count ∙ sym (program-literals units limits);
     }
+
+pub parts-loaded : (units : List Unit) (made : Definitions) (r : Result Parts OutOfMemory) → IsDefined units made → IfOk r (IsBuilt made) → IfOk r (IsParts units)
+parts-loaded units made (Ok p) d b =
+    loaded units made.defining.draft.bodies (map seen_code p.codes) p.unit_codes (map seen_initializer p.initializers) p.literals d.holds.bodies b.codes (b.numbers ∙ d.numbers) (ap (map seen_initializer) b.initializers ∙ d.holds.initializers) (b.literals ∙ d.holds.objects)
+parts-loaded units made (Err e) d b = tt

@@ -11,6 +11,7 @@ use Rattle.program_image.specs.Finding.{defined_kind, codes_from, unit_codes, pr
 use Rattle.st_compiler.specs.declared.units.Definitions.{Definitions}
 use Rattle.st_compiler.specs.declared.loaded.Parts.{Parts}
 use Rattle.st_compiler.specs.Drafted.{seen_initializer, Holds}
+use Rattle.st_compiler.specs.Placed.{compiled_drafts}
 
 -- what the units of a file define
 abbrev pub defined_file : Names → List Unit → Defined → Defined
@@ -30,3 +31,10 @@ pub record IsLoaded (units : List Unit) (seen : List Compiled) (by_unit : List �
 
 abbrev pub IsParts : List Unit → Parts → Type 0
 IsParts units p = IsLoaded units (map seen_code p.codes) p.unit_codes (map seen_initializer p.initializers) p.literals
+
+-- what runs of the definitions of a file: their bodies as code, and the rest as it stands
+pub record IsBuilt (made : Definitions) (p : Parts) : Type 0 where
+  pub codes : map seen_code p.codes ≡ compiled_drafts made.defining.draft.bodies 0 made.defining.draft.bodies
+  pub numbers : p.unit_codes ≡ made.unit_codes
+  pub initializers : p.initializers ≡ made.defining.initializers
+  pub literals : p.literals ≡ made.defining.draft.objects

@@ -4,11 +4,11 @@ ghost use Rattle.st_code.specs.Compiled.{compile_of, seen_code};
 ghost use Rattle.st_code.specs.Definitions.{RunLimits};
 ghost use Rattle.program_image.specs.Finding.{program_of_image, unit_codes};
 ghost use Rattle.st_compiler.specs.Drafted.{seen_initializer};
-ghost use Rattle.st_compiler.specs.Loading.{IsParts};
+ghost use Rattle.st_compiler.specs.Loading.{IsBuilt, IsParts};
 
 use crate::lookup::Lookups;
 use crate::placing::codes_of;
-use crate::units::{Initializer, definitions_of};
+use crate::units::{Definitions, Initializer, definitions_of};
 use program_image::Image;
 use sqlite_items::Items;
 use st_base::OutOfMemory;
@@ -49,11 +49,10 @@ impl Model for Loaded {
     ghost invariant = { λ l. IsParts l.image l.parts };
 }
 
-fn parts_of(alloc: Global, image: &Image) -> Result<Parts, OutOfMemory>
-    ensures { IfOk result (IsParts image.now) }
+// What runs of the definitions, with the code of each body.
+fn parts_from(alloc: Global, definitions: Definitions<'_, '_>) -> Result<Parts, OutOfMemory>
+    ensures { IfOk result (IsBuilt definitions.entry) }
 {
-    let lookups = Lookups::new(alloc, image)?;
-    let definitions = definitions_of(alloc, &lookups)?;
     let codes = codes_of(alloc, definitions.bodies())?;
     let literals = definitions.literals();
     let (initializers, unit_codes) = definitions.into_rows();
@@ -63,6 +62,20 @@ fn parts_of(alloc: Global, image: &Image) -> Result<Parts, OutOfMemory>
         initializers,
         literals,
     })
+}
+
+fn parts_found(alloc: Global, lookups: &Lookups<'_>) -> Result<Parts, OutOfMemory>
+    ensures { IfOk result (IsParts lookups.now) }
+{
+    let definitions = definitions_of(alloc, lookups)?;
+    parts_from(alloc, definitions)
+}
+
+fn parts_of(alloc: Global, image: &Image) -> Result<Parts, OutOfMemory>
+    ensures { IfOk result (IsParts image.now) }
+{
+    let lookups = Lookups::new(alloc, image)?;
+    parts_found(alloc, &lookups)
 }
 
 /// The code of a program. It takes the image whole.

@@ -1,5 +1,5 @@
 // The units of a file, one behind the other: the code of each method and initializer, and the number that it gets.
-ghost use Rattle.std.specs.Prelude.{◌≡◌, length, map, IfOk, OnOk};
+ghost use Rattle.std.specs.Prelude.{◌≡◌, [], ◌∷◌, ◌++◌, length, map, IfOk, OnOk};
 ghost use Rattle.std.specs.Option.{option_map};
 ghost use Rattle.st_code.specs.Written.{name_text, named_body, named_method, named_unit};
 ghost use Rattle.st_code.specs.Resolved.{class_in, place_in};
@@ -215,19 +215,36 @@ pub(crate) fn definitions_of<'a, 'l>(
 ) -> Result<Definitions<'a, 'l>, OutOfMemory>
     ensures { IfOk result (IsDefined lookups.now) }
 {
-    let mut unit_codes = Items::new(alloc);
-    let mut defining = Defining::new(alloc, lookups);
+    let mut definitions = Definitions::new(alloc, lookups);
     for unit in lookups.image().definition().units.as_slice() {
-        unit_codes.push(narrow(defining.draft.bodies.len())?)?;
-        defining.define(unit)?;
+        definitions.add(unit)?;
     }
-    Ok(Definitions {
-        defining,
-        unit_codes,
-    })
+    Ok(definitions)
 }
 
 impl<'a, 'l> Definitions<'a, 'l> {
+    fn new(alloc: Global, lookups: &'l Lookups<'a>) -> Definitions<'a, 'l>
+        ensures lookups { result.defining.lookups ≡ lookups.entry }
+        ensures nothing { Holds result.defining nothing_defined }
+        ensures numbers { result.unit_codes ≡ [] }
+    {
+        Definitions {
+            defining: Defining::new(alloc, lookups),
+            unit_codes: Items::new(alloc),
+        }
+    }
+
+    // A unit, and the number that its body gets.
+    fn add(&mut self, unit: &'a Unit) -> Result<(), OutOfMemory>
+        ensures lookups { OnOk result (self.new.defining.lookups ≡ self.old.defining.lookups) }
+        ensures number { OnOk result (self.new.unit_codes ≡ self.old.unit_codes ++ length self.old.defining.draft.bodies ∷ []) }
+        ensures holds { OnOk result ((d : Defined) → Holds self.old.defining d → Holds self.new.defining (defined_kind (image_names self.old.defining.lookups.now) (named_unit unit.now) d)) }
+    {
+        let code = narrow(self.defining.draft.bodies.len())?;
+        self.unit_codes.push(code)?;
+        self.defining.define(unit)
+    }
+
     /// The bodies by number.
     pub(crate) fn bodies(&self) -> &[DraftBody]
         ensures { result.now ≡ self.now.defining.draft.bodies }

@@ -6,11 +6,11 @@ use Rattle.object_heap.specs.declared.value.Value.TheVariants.{Nil}
 use Rattle.st_contexts.specs.declared.contexts.Slot.{Slot}
 use Rattle.st_contexts.specs.declared.activation.Activation.{Activation}
 use Rattle.st_contexts.specs.declared.activation.Env.{Env}
-use Rattle.st_contexts.specs.Moving.{next_in, moved_here}
+use Rattle.st_contexts.specs.Moving.{next_in, moved_here, kept_changed}
 use Rattle.st_contexts.specs.Stack.{with_kept, with_env, popped, value_pushed, value_popped, top_value, variable_of, with_variable}
 use Rattle.st_contexts.specs.Flat.{Windows, Flat, stack_of}
 use Rattle.st_contexts.proofs.Lists.{reverse_last}
-use Rattle.st_contexts.proofs.Flatten.{counted, starts, flat_pop, view_pop, front_kept, ends_with, flat_at, windows_at, view_kept, view_moved, view_env, room_left, windows_value_push, view_value_push, full_value_push, windows_value_pop, view_value_pop, top_value_pop, none_value_pop, none_top_value, view_variable, no_variable, flat_with_variable, view_with_variable, no_with_variable}
+use Rattle.st_contexts.proofs.Flatten.{counted, starts, flat_pop, view_pop, front_kept, ends_with, flat_at, windows_at, view_kept, view_moved, view_changed, view_env, room_left, windows_value_push, view_value_push, full_value_push, windows_value_pop, view_value_pop, top_value_pop, none_value_pop, none_top_value, view_variable, no_variable, flat_with_variable, view_with_variable, no_with_variable}
 
 module _ (d w n r rv : ℕ) (ss : List Slot) (vs : List Value) (h : Flat d w n ss vs r rv) where
   pub code_flat_pop : (r' rv' : ℕ) (ss' : List Slot) (s : Slot) (vs' : List Value) → ss ≡ ss' ++ s ∷ [] → vs' ≡ take s.start vs → r ≤ r' → rv ≤ rv' → Flat d w n ss' vs' r' rv'
@@ -41,6 +41,9 @@ module _ (d w n r rv : ℕ) (ss : List Slot) (vs : List Value) (h : Flat d w n s
 
     pub code_view_moved : stack_of (set ss (l - 1) (record { number = s.number; env = s.env; kept = next_in s.kept; start = s.start; count = s.count })) vs n d w ≡ moved_here (stack_of ss vs n d w)
     code_view_moved = rw el (view_moved d w n ss s vs some' is')
+
+    pub code_view_changed : (f : Activation → Activation) → stack_of (set ss (l - 1) (record { number = s.number; env = s.env; kept = f s.kept; start = s.start; count = s.count })) vs n d w ≡ kept_changed f (stack_of ss vs n d w)
+    code_view_changed f = rw el (view_changed d w n ss s vs f some' is')
 
     pub code_view_env : (env : Env) → stack_of (set ss (l - 1) (record { number = s.number; env = env; kept = s.kept; start = s.start; count = s.count })) vs n d w ≡ with_env env (stack_of ss vs n d w)
     code_view_env env = rw el (view_env d w n ss s vs env some' is')

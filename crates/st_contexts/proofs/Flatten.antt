@@ -8,7 +8,7 @@ use Rattle.object_heap.specs.declared.value.Value.TheVariants.{Nil}
 use Rattle.st_contexts.specs.declared.contexts.Slot.{Slot}
 use Rattle.st_contexts.specs.declared.activation.Activation.{Activation}
 use Rattle.st_contexts.specs.declared.activation.Env.{Env}
-use Rattle.st_contexts.specs.Moving.{next_in, moved_here}
+use Rattle.st_contexts.specs.Moving.{next_in, moved_here, kept_changed}
 use Rattle.st_contexts.specs.Stack.{push_answer, with_kept, with_env, pushed, popped, value_pushed, value_popped, top_value, variable_of, with_variable, operand_at, with_operand}
 use Rattle.st_contexts.specs.Flat.{standings, Windows, Falls, Flat, stack_of}
 use Rattle.st_contexts.proofs.Lists.{reverse_push, reverse_take, reverse_last, reverse_set, reverse_set_last, reverse_front}
@@ -127,6 +127,10 @@ view_kept d w n ss s vs kept some is =
 pub view_moved : (d w n : ℕ) (ss : List Slot) (s : Slot) (vs : List Value) → 0 < length ss → s ≡ get_or ss (length ss - 1) s → stack_of (set ss (length ss - 1) (record { number = s.number; env = s.env; kept = next_in s.kept; start = s.start; count = s.count })) vs n d w ≡ moved_here (stack_of ss vs n d w)
 view_moved d w n ss s vs some is =
     rw (reverse_set_last ss (record { number = s.number; env = s.env; kept = next_in s.kept; start = s.start; count = s.count }) some, ends_with ss s some is) refl
+
+pub view_changed : (d w n : ℕ) (ss : List Slot) (s : Slot) (vs : List Value) (f : Activation → Activation) → 0 < length ss → s ≡ get_or ss (length ss - 1) s → stack_of (set ss (length ss - 1) (record { number = s.number; env = s.env; kept = f s.kept; start = s.start; count = s.count })) vs n d w ≡ kept_changed f (stack_of ss vs n d w)
+view_changed d w n ss s vs f some is =
+    rw (reverse_set_last ss (record { number = s.number; env = s.env; kept = f s.kept; start = s.start; count = s.count }) some, ends_with ss s some is) refl
 
 pub view_env : (d w n : ℕ) (ss : List Slot) (s : Slot) (vs : List Value) (env : Env) → 0 < length ss → s ≡ get_or ss (length ss - 1) s → stack_of (set ss (length ss - 1) (record { number = s.number; env = env; kept = s.kept; start = s.start; count = s.count })) vs n d w ≡ with_env env (stack_of ss vs n d w)
 view_env d w n ss s vs env some is =

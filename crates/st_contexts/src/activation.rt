@@ -2,7 +2,7 @@
 ghost use Rattle.std.specs.Prelude.{◌≡◌};
 ghost use Rattle.std.specs.Option.{option_map};
 ghost use Rattle.st_contexts.specs.Marks.{mark_in, frame_in};
-ghost use Rattle.st_contexts.specs.Moving.{body_in, next_frame, next_in};
+ghost use Rattle.st_contexts.specs.Moving.{body_in, loop_aside, loop_at, loop_in, loop_made, next_frame, next_in, with_loop};
 
 use crate::outcome::Outcome;
 use object_heap::Value;
@@ -181,6 +181,50 @@ impl Activation {
     {
         match self {
             Activation::Body(frame) => frame.go_on(),
+            _ => (),
+        }
+    }
+
+    /// Where it is, if it is a loop.
+    pub fn running_loop(&self) -> Option<&LoopState>
+        ensures { option_map (λ l. l.now) result ≡ loop_in self.now }
+    {
+        match self {
+            Activation::Loop(state) => Some(state),
+            _ => None,
+        }
+    }
+
+    /// A loop is at another index, where it waits for a visit.
+    pub(crate) fn move_loop(&mut self, index: i128)
+        ensures { self.new ≡ with_loop (loop_at index) self.old }
+    {
+        match self {
+            Activation::Loop(state) => {
+                state.index = index;
+                state.visited = Value::Nil;
+                state.aside = false;
+            }
+            _ => (),
+        }
+    }
+
+    /// A loop has another value made so far.
+    pub(crate) fn set_loop_made(&mut self, made: Value)
+        ensures { self.new ≡ with_loop (loop_made made) self.old }
+    {
+        match self {
+            Activation::Loop(state) => state.made = made,
+            _ => (),
+        }
+    }
+
+    /// A loop waits for something else than a visit, or for a visit again.
+    pub(crate) fn set_loop_aside(&mut self, aside: bool)
+        ensures { self.new ≡ with_loop (loop_aside aside) self.old }
+    {
+        match self {
+            Activation::Loop(state) => state.aside = aside,
             _ => (),
         }
     }

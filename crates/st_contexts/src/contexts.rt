@@ -4,11 +4,12 @@ ghost use Rattle.st_contexts.specs.Marks.{entry_of};
 ghost use Rattle.st_contexts.specs.Stack.{new_stack, pushed, push_answer, popped, innermost_of, top_kept, frame_of, top_env, with_kept, with_env, value_pushed, value_popped, top_value, variable_of, with_variable, stands_in, outer_in, kept_of, mark_of, env_of, operands_of, operand_at, numbered_at, entry_in, env_in, with_outside};
 ghost use Rattle.std.specs.Option.{option_map};
 ghost use Rattle.st_contexts.specs.Flat.{Falls, place_in};
-ghost use Rattle.st_contexts.specs.Moving.{body_of, moved_here};
+ghost use Rattle.st_contexts.specs.Moving.{body_of, loop_aside, loop_at, loop_changed, loop_made, loop_of, moved_here};
 
 use crate::activation::{Activation, Entry, Env, Frame, Mark, Numbered};
 use object_heap::Value;
 use st_base::OutOfMemory;
+use st_loops::LoopState;
 use std::alloc::Global;
 use std::marker::Model;
 
@@ -170,6 +171,46 @@ impl Contexts {
             return;
         };
         slot.kept.go_on();
+    }
+
+    /// Where the innermost activation is, if it is a loop.
+    pub fn running_loop(&self) -> Option<&LoopState>
+        ensures { option_map (λ l. l.now) result ≡ loop_of self.now }
+    {
+        match self.slots.last() {
+            Some(slot) => slot.kept.running_loop(),
+            None => None,
+        }
+    }
+
+    /// The innermost loop is at another index, where it waits for a visit.
+    pub fn move_loop(&mut self, index: i128)
+        ensures { self.new ≡ loop_changed (loop_at index) self.old }
+    {
+        let Some(slot) = self.slots.last_mut() else {
+            return;
+        };
+        slot.kept.move_loop(index);
+    }
+
+    /// The innermost loop has another value made so far.
+    pub fn set_loop_made(&mut self, made: Value)
+        ensures { self.new ≡ loop_changed (loop_made made) self.old }
+    {
+        let Some(slot) = self.slots.last_mut() else {
+            return;
+        };
+        slot.kept.set_loop_made(made);
+    }
+
+    /// The innermost loop waits for something else than a visit, or for a visit again.
+    pub fn set_loop_aside(&mut self, aside: bool)
+        ensures { self.new ≡ loop_changed (loop_aside aside) self.old }
+    {
+        let Some(slot) = self.slots.last_mut() else {
+            return;
+        };
+        slot.kept.set_loop_aside(aside);
     }
 
     /// The environment of the innermost activation.

@@ -19,3 +19,4 @@ pub mod Running
 pub mod Meaning
 pub mod Sound
 pub mod Followed
+pub mod KnownSends

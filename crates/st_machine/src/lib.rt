@@ -18,6 +18,7 @@ mod running;
 mod scopes;
 mod searches;
 mod sending;
+mod sends;
 mod settling;
 mod signals;
 mod work;

@@ -1,19 +1,24 @@
 // A program that is ready to run: its image, its code and the limits of its run.
-ghost use Rattle.std.specs.Prelude.{◌≡◌, ◌+◌, ◌<◌, ◌-◌, ◌^◌, [], get_or, length, map, slice_get, IfOk, IfSome};
+ghost use Rattle.std.specs.Prelude.{◌≡◌, ◌+◌, ◌<◌, ◌-◌, ◌^◌, [], get_or, length, map, slice_get, IfOk, IfSome, Some};
 ghost use Rattle.std.specs.Option.{option_map};
 ghost use Rattle.st_rules.specs.Ends.{first_class_slot};
 ghost use Rattle.st_rules.specs.Flat.{code_at, greatest_width};
 ghost use Rattle.st_code.specs.Compiled.{seen_code};
 ghost use Rattle.st_code.specs.Program.{body_at};
+ghost use Rattle.st_code.specs.Lookup.{level, lookup};
 ghost use Rattle.program_image.specs.Finding.{unit_codes};
-ghost use Rattle.st_machine.specs.Plans.{plan_of, program_in, are_short};
+ghost use Rattle.program_image.specs.Images.{on_side, as_row};
+ghost use Rattle.st_machine.specs.KnownSends.{IsKnown};
+ghost use Rattle.st_machine.specs.Plans.{plan_of, program_in, are_short, IsSmall};
 ghost use Rattle.st_machine.specs.Signals.{text_in, slots_in};
 
+use crate::sends::{KnownSend, SENDS, place_of, send_at};
 use object_heap::{Trouble, Value};
-use program_image::Image;
+use program_image::{Found, Image, Side};
 use st_base::{Limits, OutOfMemory};
 use st_code::{Code, Instruction};
 use st_compiler::{Initializer, Loaded as Compiled};
+use std::alloc::Global;
 use std::marker::Model;
 
 /// A program that is ready to run. Contracts see its definitions, its code and its initializers,
@@ -22,6 +27,7 @@ use std::marker::Model;
 pub struct Loaded {
     program: Compiled,
     limits: Limits,
+    sends: Vec<Option<KnownSend>>,
 }
 
 impl Model for Loaded {
@@ -33,17 +39,35 @@ impl Model for Loaded {
 
     ghost Value = { Plan };
 
-    ghost use Rattle.st_machine.specs.Plans.{plan_of, IsSmall};
+    ghost use Rattle.st_machine.specs.Plans.{plan_of, program_in, IsSmall};
+    ghost use Rattle.st_machine.specs.KnownSends.{AreKnown};
 
     ghost view = { λ l. plan_of l.program l.limits };
 
-    ghost invariant = { λ l. IsSmall (plan_of l.program l.limits) };
+    ghost invariant = { λ l. IsSmall (plan_of l.program l.limits) × AreKnown (program_in (plan_of l.program l.limits)) l.sends.items };
 }
 
 impl Loaded {
+    // The program with its limits, and no send kept.
+    fn with_no_sends(
+        alloc: Global,
+        program: Compiled,
+        limits: Limits,
+    ) -> Result<Loaded, OutOfMemory>
+        requires { IsSmall (plan_of program limits) }
+        ensures { IfOk result (λ loaded. loaded ≡ plan_of program limits) }
+    {
+        let sends = vec![in alloc; None; SENDS]?;
+        Ok(Loaded {
+            program,
+            limits,
+            sends,
+        })
+    }
+
     /// A compiled program with the limits of its run. A code of 2^32 variables or more, or so many
     /// literals, count as want of memory.
-    pub fn new(program: Compiled, limits: Limits) -> Result<Loaded, OutOfMemory>
+    pub fn new(alloc: Global, program: Compiled, limits: Limits) -> Result<Loaded, OutOfMemory>
         ensures { IfOk result (λ loaded. loaded ≡ plan_of program limits) }
     {
         if program.literals() > u32::MAX - Trouble::COUNT {
@@ -52,7 +76,28 @@ impl Loaded {
         if !are_short(program.codes()) {
             return Err(OutOfMemory);
         }
-        Ok(Loaded { program, limits })
+        Loaded::with_no_sends(alloc, program, limits)
+    }
+
+    /// What a send found before, where that is kept.
+    pub(crate) fn known(&self, side: Side, class: u32, selector: u32) -> Option<Found>
+        ensures { IfSome result (λ found. lookup (program_in self.now) (level (on_side side) class) selector ≡ Some (as_row found)) }
+    {
+        match send_at(&self.sends, place_of(class, selector)) {
+            Some(known) => known.found_for(side, class, selector),
+            None => None,
+        }
+    }
+
+    /// Keeps what a send found, in the place of another.
+    pub(crate) fn keep(&mut self, known: KnownSend)
+        requires { IsKnown (program_in self.old) known }
+        ensures { self.new ≡ self.old }
+    {
+        let place = place_of(known.class, known.selector);
+        if place < self.sends.len() {
+            self.sends[place] = Some(known);
+        }
     }
 
     /// The image of the program.

@@ -239,7 +239,7 @@ impl<H: Heap> Machine<H> {
     }
 
     /// Goes on with what a message does at once, and answers what that tells.
-    pub(crate) fn say(&mut self, reply: Reply, env: Env) -> Telling
+    pub fn say(&mut self, reply: Reply, env: Env) -> Telling
         ensures said { self.new ≡ said (seen (program_in self.old.plan) self.old.memory.store self.old.passed.values reply) env self.old }
         ensures told { result.events ≡ said_told (seen (program_in self.old.plan) self.old.memory.store self.old.passed.values reply) self.old }
         ensures written { written_text (program_in self.new.plan) self.new.memory.store result.written ≡ said_written (seen (program_in self.old.plan) self.old.memory.store self.old.passed.values reply) }

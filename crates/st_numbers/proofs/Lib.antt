@@ -1,4 +1,5 @@
 pub mod GcdLaws
 pub mod Comparisons
 pub mod Ranges
+pub mod WholeNumbers
 pub mod ProperAnswers

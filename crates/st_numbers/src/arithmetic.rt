@@ -2,12 +2,12 @@
 ghost use Rattle.std.specs.Prelude.{◌≡◌, ℕ, ◌<◌, ◌*◌, ◌/◌, ◌+ℤ◌, ◌-ℤ◌, ◌*ℤ◌, ◌&&◌, pos, Some, None, IfSome, if◌then◌else◌};
 ghost use Rattle.st_numbers.specs.Gcd.{gcd};
 ghost use Rattle.st_numbers.specs.Numbers.{in_range, IsProper};
-ghost use Rattle.st_numbers.specs.Answers.{quotient_answer, total_answer, sum_answer, product_answer, divide_answer};
+ghost use Rattle.st_numbers.specs.Answers.{integer_answer, quotient_answer, total_answer, sum_answer, product_answer, divide_answer};
 
 use crate::answer::{Ratio, answer_quotient, answer_ratio, ratio_of, scaled};
 use crate::divisor::greatest_divisor;
 use crate::message::{Number, NumberAnswer};
-use object_heap::Trouble;
+use object_heap::{Trouble, Value};
 
 // Two numerators over one denominator.
 #[derive(Clone, Copy)]
@@ -66,8 +66,38 @@ fn answer_difference(terms: Terms) -> NumberAnswer
     }
 }
 
-/// The sum, over the least common denominator: each number on the way has to fit.
-pub fn add(x: Number, y: Number) -> NumberAnswer
+// The sum of two Integers.
+fn integer_sum(a: i128, b: i128) -> NumberAnswer
+    ensures { result ≡ integer_answer (a +ℤ b) }
+{
+    match a.checked_add(b) {
+        Some(sum) => NumberAnswer::Value(Value::Integer(sum)),
+        None => NumberAnswer::IntegerLimit,
+    }
+}
+
+// Their difference.
+fn integer_difference(a: i128, b: i128) -> NumberAnswer
+    ensures { result ≡ integer_answer (a -ℤ b) }
+{
+    match a.checked_sub(b) {
+        Some(difference) => NumberAnswer::Value(Value::Integer(difference)),
+        None => NumberAnswer::IntegerLimit,
+    }
+}
+
+// Their product.
+fn integer_product(a: i128, b: i128) -> NumberAnswer
+    ensures { result ≡ integer_answer (a *ℤ b) }
+{
+    match a.checked_mul(b) {
+        Some(product) => NumberAnswer::Value(Value::Integer(product)),
+        None => NumberAnswer::IntegerLimit,
+    }
+}
+
+// The sum of any two numbers, over the least common denominator.
+fn rational_sum(x: Number, y: Number) -> NumberAnswer
     requires receiver { IsProper x }
     requires argument { IsProper y }
     ensures { result ≡ sum_answer ◌+ℤ◌ x y }
@@ -78,8 +108,8 @@ pub fn add(x: Number, y: Number) -> NumberAnswer
     }
 }
 
-/// The difference, likewise.
-pub fn subtract(x: Number, y: Number) -> NumberAnswer
+// The difference, likewise.
+fn rational_difference(x: Number, y: Number) -> NumberAnswer
     requires receiver { IsProper x }
     requires argument { IsProper y }
     ensures { result ≡ sum_answer ◌-ℤ◌ x y }
@@ -87,6 +117,30 @@ pub fn subtract(x: Number, y: Number) -> NumberAnswer
     match over_one_denominator(ratio_of(x), ratio_of(y)) {
         Some(terms) => answer_difference(terms),
         None => NumberAnswer::IntegerLimit,
+    }
+}
+
+/// The sum, over the least common denominator: each number on the way has to fit.
+pub fn add(x: Number, y: Number) -> NumberAnswer
+    requires receiver { IsProper x }
+    requires argument { IsProper y }
+    ensures { result ≡ sum_answer ◌+ℤ◌ x y }
+{
+    match (x, y) {
+        (Number::Integer(a), Number::Integer(b)) => integer_sum(a, b),
+        _ => rational_sum(x, y),
+    }
+}
+
+/// The difference, likewise.
+pub fn subtract(x: Number, y: Number) -> NumberAnswer
+    requires receiver { IsProper x }
+    requires argument { IsProper y }
+    ensures { result ≡ sum_answer ◌-ℤ◌ x y }
+{
+    match (x, y) {
+        (Number::Integer(a), Number::Integer(b)) => integer_difference(a, b),
+        _ => rational_difference(x, y),
     }
 }
 
@@ -110,7 +164,8 @@ fn cross_product(negative: bool, a: u128, b: u128, c: u128, d: u128) -> NumberAn
     answer_ratio(negative, numerator, denominator)
 }
 
-pub fn multiply(x: Number, y: Number) -> NumberAnswer
+// The product of any two numbers.
+fn rational_product(x: Number, y: Number) -> NumberAnswer
     requires receiver { IsProper x }
     requires argument { IsProper y }
     ensures { result ≡ product_answer x y }
@@ -124,6 +179,18 @@ pub fn multiply(x: Number, y: Number) -> NumberAnswer
         right.numerator.unsigned_abs(),
         right.denominator,
     )
+}
+
+/// The product.
+pub fn multiply(x: Number, y: Number) -> NumberAnswer
+    requires receiver { IsProper x }
+    requires argument { IsProper y }
+    ensures { result ≡ product_answer x y }
+{
+    match (x, y) {
+        (Number::Integer(a), Number::Integer(b)) => integer_product(a, b),
+        _ => rational_product(x, y),
+    }
 }
 
 #[tactic(auto, using(crate::proofs::GcdLaws::gcd_comm))]

@@ -32,8 +32,8 @@ fn is_smaller(a: u128, b: u128, c: u128, d: u128) -> bool
     }
 }
 
-/// Whether the first number is less than the second.
-pub fn is_below(x: Number, y: Number) -> bool
+// Whether the first of any two numbers is less than the second.
+fn is_lesser_quotient(x: Number, y: Number) -> bool
     requires receiver { IsProper x }
     requires argument { IsProper y }
     ensures { result ≡ is_less x y }
@@ -47,6 +47,19 @@ pub fn is_below(x: Number, y: Number) -> bool
         (true, false) => true,
         (false, true) => false,
         (true, true) => is_smaller(other, right.denominator, size, left.denominator),
+    }
+}
+
+/// Whether the first number is less than the second.
+#[tactic(auto, using(crate::proofs::WholeNumbers::integer_less))]
+pub fn is_below(x: Number, y: Number) -> bool
+    requires receiver { IsProper x }
+    requires argument { IsProper y }
+    ensures { result ≡ is_less x y }
+{
+    match (x, y) {
+        (Number::Integer(a), Number::Integer(b)) => a < b,
+        _ => is_lesser_quotient(x, y),
     }
 }
 

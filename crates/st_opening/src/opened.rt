@@ -36,7 +36,7 @@ pub fn open(
         return Err(OutOfMemory);
     }
     let heap = literal_heap(alloc, program.image(), limits.cells)?;
-    let loaded = Loaded::new(program, limits)?;
+    let loaded = Loaded::new(alloc, program, limits)?;
     if !are_counted(loaded.names()) {
         return Err(OutOfMemory);
     }

@@ -71,6 +71,7 @@ one_of_task task.Check c us bytes o o' a b = a ∙ sym b
 one_of_task task.List c us bytes o o' a b = a ∙ sym b
 one_of_task task.Export c us bytes o o' a b = a ∙ sym b
 one_of_task task.Gen c us bytes o o' a b = one_of_run c us (summary us bytes) o o' a b
+one_of_task task.Shake c us bytes o o' a b = a ∙ sym b
 
 one_of_rules : (c : Command) (us : List unit.Unit) (bytes : ℕ) (x : Option Break) (o o' : Outcome) → OfRules c us bytes x o → OfRules c us bytes x o' → o ≡ o'
 one_of_rules c us bytes None o o' a b = one_of_task c.task c us bytes o o' a b

@@ -15,6 +15,7 @@ use Rattle.st_words.specs.declared.command.Task.{Task}
 use Rattle.st_words.specs.declared.command.Task.TheVariants as task
 use Rattle.st_answers.specs.Listing.{ok_line, listing}
 use Rattle.sif_export.specs.ExportText.{export_text}
+use Rattle.st_shake.specs.Shaken.{shaken}
 use Rattle.st_run.specs.Outcomes.{Outcome, done, refused, usage, program_for, ending_status, transcript, summary, ended, IsOfRun, OfTask, IsEnding, DoneBy}
 use Rattle.st_run.specs.Commands.{place_at, OfRules, OfAnswer, SomeOutcome, file_of}
 
@@ -39,6 +40,7 @@ some_of_task task.Check c us bytes = (done (ok_line us), refl)
 some_of_task task.List c us bytes = (done (listing us), refl)
 some_of_task task.Export c us bytes = (done (export_text us), refl)
 some_of_task task.Gen c us bytes = some_of_run c us (summary us bytes)
+some_of_task task.Shake c us bytes = (done (export_text (shaken us)), refl)
 
 pub some_of_rules : (c : Command) (us : List unit.Unit) (bytes : ℕ) (b : Option Break) → (o : Outcome) × OfRules c us bytes b o
 some_of_rules c us bytes None = some_of_task c.task c us bytes
@@ -72,3 +74,4 @@ of_task_status task.Check c us bytes o is = rw is refl
 of_task_status task.List c us bytes o is = rw is refl
 of_task_status task.Export c us bytes o is = rw is refl
 of_task_status task.Gen c us bytes o is = run_status c us (summary us bytes) o is
+of_task_status task.Shake c us bytes o is = rw is refl

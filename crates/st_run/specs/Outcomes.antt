@@ -15,6 +15,7 @@ use Rattle.st_words.specs.declared.command.Command.{Command}
 use Rattle.st_answers.specs.Listing.{ok_line, listing}
 use Rattle.st_gen.specs.Generated.{gen_line}
 use Rattle.sif_export.specs.ExportText.{export_text}
+use Rattle.st_shake.specs.Shaken.{shaken}
 use Rattle.st_run.specs.Reports.{refused_line, usage_line, stats_if, ending_line}
 
 pub record Outcome : Type 0 where
@@ -87,6 +88,7 @@ OfTask task.Check c us bytes o = o ≡ done (ok_line us)
 OfTask task.List c us bytes o = o ≡ done (listing us)
 OfTask task.Export c us bytes o = o ≡ done (export_text us)
 OfTask task.Gen c us bytes o = IsOfRun c us (summary us bytes) o
+OfTask task.Shake c us bytes o = o ≡ done (export_text (shaken us))
 
 -- the status of a task that is done with a program: of a run by its ending
 abbrev pub IsEnding : (status : ℕ) → Type 0

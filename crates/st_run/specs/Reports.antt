@@ -44,7 +44,7 @@ refused_line place reason =
     codes "stx: refused element " ++ decimal place.element ++ codes " byte " ++ decimal place.byte ++ codes " " ++ reason_word reason ++ codes "\n"
 
 abbrev pub usage_line : List ℕ
-usage_line = codes "stx: usage: stx [options] run|check|list|export|gen\n"
+usage_line = codes "stx: usage: stx [options] run|check|list|export|gen|shake\n"
 
 abbrev pub read_fault_line : List ℕ
 read_fault_line = codes "stx: read fault\n"

@@ -6,6 +6,7 @@ ghost use Rattle.st_tree.specs.Numbers.{elements_in};
 ghost use Rattle.st_tree.specs.Units.{IsReadable};
 ghost use Rattle.sif_export.specs.ExportText.{export_text};
 ghost use Rattle.st_checks.specs.StaticRules.{first_break, MeetsRules};
+ghost use Rattle.st_shake.specs.Shaken.{shaken};
 ghost use Rattle.st_words.specs.CommandLine.{IsInBounds};
 ghost use Rattle.st_run.specs.Outcomes.{Outcome, done, refused, usage, OfTask};
 ghost use Rattle.st_run.specs.Commands.{OfRules};
@@ -18,6 +19,7 @@ use sif_export::export;
 use st_answers::{listing, ok_line};
 use st_base::{OutOfMemory, Place, Reason, Sink, put_all};
 use st_checks::{CheckAnswer, check};
+use st_shake::shake;
 use st_tree::units::Definition;
 use st_words::{Command, Task};
 use std::alloc::Global;
@@ -78,6 +80,21 @@ fn write_text<K: Sink>(out: &mut K, definition: &Definition) -> u8
     }
 }
 
+// Writes the canonical text of what is kept of a program that is shaken, and answers the status.
+fn write_shaken<K: Sink, E: Sink>(
+    alloc: Global,
+    definition: &Definition,
+    out: &mut K,
+    report: &mut E,
+) -> u8
+    ensures { Finishes (done (export_text (shaken definition.now.units))) (Rose (K.faults out.old) (K.faults out.new)) (Rose (E.faults report.old) (E.faults report.new)) (K.written out.old) (K.written out.new) (E.written report.old) (E.written report.new) result }
+{
+    match shake(alloc, definition) {
+        Ok(smaller) => write_text(out, &smaller),
+        Err(_) => report_want_of_memory(report),
+    }
+}
+
 // Writes a text that is made, and answers the status.
 fn write_made<K: Sink, E: Sink>(
     made: Result<Vec<u8>, OutOfMemory>,
@@ -113,6 +130,7 @@ fn perform<K: Sink, E: Sink>(
         Task::List => write_made(listing(alloc, definition.units.as_slice()), out, report),
         Task::Export => write_text(out, &definition),
         Task::Gen => generate(alloc, command, bytes, definition, out, report),
+        Task::Shake => write_shaken(alloc, &definition, out, report),
     }
 }
 

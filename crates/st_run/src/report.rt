@@ -14,7 +14,7 @@ use st_base::{Failed, Limits, OutOfMemory, Place, Reason, Sink, put_all};
 use st_machine::{Ending, Machine, Stats};
 use std::alloc::Global;
 
-pub const USAGE: &[u8] = b"stx: usage: stx [options] run|check|list|export|gen\n";
+pub const USAGE: &[u8] = b"stx: usage: stx [options] run|check|list|export|gen|shake\n";
 
 pub const READ_FAULT: &[u8] = b"stx: read fault\n";
 

@@ -8,7 +8,7 @@ use Rattle.clap.specs.ValueTests.{is_numeral}
 use Rattle.clap.specs.declared.builder.action.ArgAction.TheVariants.{Set, SetTrue}
 use Rattle.clap.specs.declared.builder.value_parser.ValueParser.TheVariants as vp
 use Rattle.st_words.specs.declared.command.Task.{Task}
-use Rattle.st_words.specs.declared.command.Task.TheVariants.{Run, Check, List as ListUnits, Export, Gen}
+use Rattle.st_words.specs.declared.command.Task.TheVariants.{Run, Check, List as ListUnits, Export, Gen, Shake}
 use Rattle.st_words.specs.declared.command.Command.{Command}
 
 -- ---- what `clap` is told
@@ -50,6 +50,7 @@ task_of name =
     else if bytes_eq name (codes "list") then Some ListUnits
     else if bytes_eq name (codes "export") then Some Export
     else if bytes_eq name (codes "gen") then Some Gen
+    else if bytes_eq name (codes "shake") then Some Shake
     else None
 
 abbrev pub named_task : Option Text → Option Task

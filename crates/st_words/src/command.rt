@@ -22,6 +22,8 @@ pub enum Task {
     Export,
     /// Runs it with generated lines behind it, and writes what that came to.
     Gen,
+    /// Writes the canonical text of what its run can reach by name.
+    Shake,
 }
 
 /// A task and its options. Each task takes all of them, and ignores those that it doesn't use.
@@ -47,6 +49,7 @@ fn task_of(name: &str) -> Option<Task>
         "list" => Some(Task::List),
         "export" => Some(Task::Export),
         "gen" => Some(Task::Gen),
+        "shake" => Some(Task::Shake),
         _ => None,
     }
 }

@@ -9,13 +9,30 @@ use anyhow::Result;
 use std::alloc::AllocError;
 use std::io::{BufRead, BufReader};
 use trial::Outcome;
-use wanted::{Program, Run};
+use wanted::{Program, Repeated, Run};
+
+fn append(file: &mut Vec<u8>, part: &Repeated) -> Result<()> {
+    for _ in 0..part.times {
+        file.extend_from_slice(part.text.as_bytes())?;
+    }
+    Ok(())
+}
+
+// The whole file of a program.
+fn file_of(rt: &HostRuntime, program: &Program) -> Result<Vec<u8>> {
+    let mut file = Vec::from_slice(rt.alloc(), program.input.as_bytes())?;
+    for part in &program.rest {
+        append(&mut file, part)?;
+    }
+    Ok(file)
+}
 
 // Runs a program in each of its ways, and says how many came out otherwise than wanted.
 fn try_runs(rt: &HostRuntime, program: &Program) -> Result<u64> {
+    let file = file_of(rt, program)?;
     let mut differing = 0u64;
     for run in &program.runs {
-        let found = Outcome::of(rt.alloc(), program.input.as_bytes(), run).map_err(|_| AllocError)?;
+        let found = Outcome::of(rt.alloc(), &file, run).map_err(|_| AllocError)?;
         if !found.is_wanted(run) {
             differing = differing.saturating_add(1);
             print_difference(rt, program, run, &found)?;

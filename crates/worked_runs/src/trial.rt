@@ -19,7 +19,8 @@ pub struct Outcome {
 
 impl Outcome {
     /// Runs the program in memory.
-    pub fn of(alloc: Global, input: &[u8], run: &Run) -> Result<Outcome, OutOfMemory> {
+    pub fn of(alloc: Global, file: &[u8], run: &Run) -> Result<Outcome, OutOfMemory> {
+        let input = first_part(file, run);
         let cuts = cuts_of(alloc, input, run)?;
         let bytes = Vec::from_slice(alloc, input)?;
         let mut source = MemorySource::new(bytes, cuts, run.failing_reads.clone()?);
@@ -47,8 +48,20 @@ impl Outcome {
     }
 }
 
+// The bytes of the file that there are.
+fn first_part<'a>(file: &'a [u8], run: &Run) -> &'a [u8] {
+    match file.get(..run.first) {
+        Some(first) if run.first > 0 => first,
+        _ => file,
+    }
+}
+
 // How many bytes each call to the source gives at most.
 fn cuts_of(alloc: Global, input: &[u8], run: &Run) -> Result<Vec<usize>, OutOfMemory> {
-    let cuts = if run.piece == 0 { 0 } else { input.len() };
+    let cuts = if run.piece == 0 {
+        0
+    } else {
+        input.len() / run.piece
+    };
     Ok(vec![in alloc; run.piece; cuts]?)
 }

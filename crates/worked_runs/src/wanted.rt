@@ -12,7 +12,19 @@ pub struct Program {
     /// The interchange file.
     pub input: String,
 
+    /// What stands behind it, where a file is too long to be written out.
+    #[serde(default)]
+    pub rest: Vec<Repeated>,
+
     pub runs: Vec<Run>,
+}
+
+/// A text, so many times.
+#[derive(Drop, Deserialize)]
+#[serde(deny_unknown_fields)]
+pub struct Repeated {
+    pub text: String,
+    pub times: u32,
 }
 
 /// How a program is run, and what comes of it.
@@ -33,6 +45,10 @@ pub struct Run {
     /// How often a device fails.
     #[serde(default)]
     pub faults: u64,
+
+    /// How many bytes of the file there are; 0 for all.
+    #[serde(default)]
+    pub first: usize,
 
     /// How many bytes the input gives at once; 0 sets no bound.
     #[serde(default)]

@@ -2,6 +2,7 @@
 use Rattle.std.proofs.Common.{refl}
 use Rattle.sif_export.specs.ExportText.{export_text}
 use Rattle.st_answers.specs.Listing.{ok_line, listing}
+use Rattle.st_shake.specs.Shaken.{shaken}
 use Rattle.st_words.specs.declared.command.Task.TheVariants as task
 use Rattle.st_run.specs.Outcomes.{done, OfTask}
 use Rattle.st_run.proofs.CallLemmas.{ends_by, any_report, of_task}
@@ -27,3 +28,8 @@ returns-in-Export g c =
 
 pub returns-in-Gen : goal.returns-in-Gen
 returns-in-Gen g c = of_task task.Gen c.args.command c.args.definition.units c.args.bytes _ _ _ _ _ _ _ c.in-Gen.is c.generate.ensures
+
+pub returns-in-Shake : goal.returns-in-Shake
+returns-in-Shake g c =
+    let us = c.args.definition.units in
+    of_task task.Shake c.args.command us c.args.bytes _ _ _ _ _ _ _ c.in-Shake.is (ends_by (OfTask task.Shake c.args.command us c.args.bytes) (done (export_text (shaken us))) _ _ _ _ _ _ _ refl c.write_shaken.ensures)

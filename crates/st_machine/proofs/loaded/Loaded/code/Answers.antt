@@ -16,5 +16,5 @@ pub returns-clause-short : goal.returns-clause-short
 unfolding program_of_image
 returns-clause-short c =
     let are : map seen_code c.codes.result.now ≡ c.args.self.now.codes = rw (← c.self.view_is) (c.codes.ensures (limits_of c.self.inside.limits)) in
-    let short : are_short c.args.self.now.codes ≡ true = sym (ap (λ (p : Plan). are_short p.codes) c.self.view_is) ∙ c.self.invariant.short in
+    let short : are_short c.args.self.now.codes ≡ true = sym (ap (λ (p : Plan). are_short p.codes) c.self.view_is) ∙ c.self.invariant.0.short in
     if-short c.code_in.result c.args.self.now.codes c.args.code (c.code_in.ensures ∙ ap (λ (cs : List Compiled). slice_get cs c.args.code) are) short

@@ -4,9 +4,9 @@ use Rattle.program_image.specs.Finding.{program_of_image}
 use Rattle.st_machine.specs.Plans.{limits_of, program_from, are_short}
 use Rattle.st_machine.proofs.loaded.Loaded.new.Goals as goal
 
-pub invariant_of-result : goal.invariant_of-result
+pub with_no_sends-requires : goal.with_no_sends-requires
 unfolding program_of_image
-invariant_of-result c =
+with_no_sends-requires c =
     let codes : map seen_code c.codes.result.now ≡ compile_of (program_from c.args.program c.args.limits) = c.codes.ensures (limits_of c.args.limits) in
     let count : c.literals.result ≡ (program_from c.args.program c.args.limits).trouble_place = c.literals.ensures (limits_of c.args.limits) in
     record {

@@ -8,7 +8,7 @@ pub overflow_add-result : goal.overflow_add-result
 unfolding program_of_image
 overflow_add-result c =
     let is : c.literals.result ≡ (program_from c.self.inside.program c.self.inside.limits).trouble_place = c.literals.ensures (limits_of c.self.inside.limits) in
-    omega (arith, is, c.self.invariant.numbered, c.place.ensures.within)
+    omega (arith, is, c.self.invariant.0.numbered, c.place.ensures.within)
 
 pub returns : goal.returns
 unfolding program_of_image

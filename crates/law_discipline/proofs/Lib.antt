@@ -1,0 +1,5 @@
+pub mod Telling
+pub mod Shown
+pub mod Steps
+pub mod Whole
+pub mod Disciplining

@@ -1,0 +1,11 @@
+pub mod Ordering
+pub mod Agreeing
+pub mod Verdicts
+pub mod Keeping
+pub mod Agreement
+pub mod Rows
+pub mod Reading
+pub mod Walking
+pub mod Finding
+pub mod Opening
+pub mod Links

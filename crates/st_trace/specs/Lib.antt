@@ -1,0 +1,13 @@
+pub mod Lines
+pub mod Events
+pub mod Disciplined
+pub mod Automaton
+pub mod Auditing
+pub mod Bytes
+pub mod Reading
+pub mod Audit
+pub mod Answering
+pub mod Told
+pub mod Stacked
+pub mod Audited
+pub mod Opened

@@ -1,0 +1,7 @@
+done = 0
+for i in range(1, 20001):
+    try:
+        done = done + i
+    finally:
+        done = done + 1
+print(done)

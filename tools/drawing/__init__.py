@@ -1,0 +1,1 @@
+"""Pictures of traces: what `tools/draw-trace` is made of."""

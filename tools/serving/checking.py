@@ -1,0 +1,53 @@
+"""Runs of the program for the server: checks of buffers, exports and runs, each of which a newer one can end."""
+import dataclasses
+import re
+import subprocess
+
+REFUSED = re.compile(r"stx: refused element (\d+) byte (\d+) (\w+)")
+
+
+@dataclasses.dataclass(frozen=True)
+class Refusal:
+    """What is refused: the element's number, counted from 1, the byte of its text, and the reason."""
+
+    element: int
+    byte: int
+    reason: str
+
+
+@dataclasses.dataclass(frozen=True)
+class Answer:
+    """The status, output and report of a run of the program."""
+
+    status: int
+    output: bytes
+    report: str
+
+
+class Program:
+    """The built program, as words of a command."""
+
+    def __init__(self, words: list[str]):
+        self.words = words
+
+    def start(self, words: list[str]) -> subprocess.Popen[bytes]:
+        """Starts the program with these words; its input is still to come."""
+        return subprocess.Popen(
+            [*self.words, *words], stdin=subprocess.PIPE, stdout=subprocess.PIPE, stderr=subprocess.PIPE
+        )
+
+    def answer(self, words: list[str], data: bytes, seconds: float | None = None) -> Answer | None:
+        """What the program answers to this input, or None where it took longer."""
+        with self.start(words) as run:
+            try:
+                output, report = run.communicate(data, seconds)
+            except subprocess.TimeoutExpired:
+                run.kill()
+                return None
+        return Answer(run.returncode, output, report.decode("utf-8", "replace"))
+
+    def refusal(self, data: bytes) -> Refusal | None:
+        """The first fault of a file, if it has one."""
+        answer = self.answer(["check"], data)
+        found = REFUSED.search(answer.report) if answer else None
+        return Refusal(int(found[1]), int(found[2]), found[3]) if found else None
