@@ -4,7 +4,7 @@ from __future__ import annotations
 from collections.abc import Iterator
 from pathlib import Path
 
-from .running import TOOLS, convert, convert_text, run
+from .running import TOOLS, Converted, convert, convert_text, run, run_tool
 
 FOLDER = TOOLS.parent / "examples" / "fileouts"
 
@@ -14,6 +14,21 @@ def checks(command: list[str]) -> Iterator[tuple[str, str | None]]:
     for prints in sorted(FOLDER.glob("*/*.prints")):
         path = converted_path(prints)
         yield str(path.relative_to(FOLDER)), wrong_of(command, path, prints)
+    yield "tools/convert writes the same", differs_as_a_tool(FOLDER / "pharo" / "shapes.st")
+    yield "the words are checked", None if run_tool(["--from=java", "x"]).status == 2 else "the status isn't 2"
+    yield "a file that isn't there", wrong_without_file(run_tool(["nowhere.st"]))
+
+
+def differs_as_a_tool(path: Path) -> str | None:
+    """What the tool writes otherwise than the function behind it."""
+    found, wanted = run_tool([str(path)]), convert([str(path)])
+    return None if found == wanted else "status %d: %s" % (found.status, found.report)
+
+
+def wrong_without_file(found: Converted) -> str | None:
+    """What is wrong with the report of a file that isn't there."""
+    wanted = Converted(1, b"", "nowhere.st:1:1: can't be read: No such file or directory\n")
+    return None if found == wanted else "status %d: %s" % (found.status, found.report)
 
 
 def converted_path(prints: Path) -> Path:
@@ -25,7 +40,7 @@ def converted_path(prints: Path) -> Path:
 def wrong_of(command: list[str], path: Path, prints: Path) -> str | None:
     """What is wrong with the conversion of a path, or None."""
     first = convert([str(path)])
-    if first.status != 0 or b"Traceback" in first.report.encode():
+    if first.status != 0:
         return "status %d: %s" % (first.status, first.report)
     checked = run(command, "check", first.out)
     if not checked.startswith(b"ok "):

@@ -7,6 +7,8 @@ import tempfile
 from dataclasses import dataclass
 from pathlib import Path
 
+from fileouts.command import converted
+
 TOOLS = Path(__file__).resolve().parents[1]
 
 
@@ -19,18 +21,26 @@ class Converted:
     report: str
 
 
-def convert(words: list[str], folder: Path | None = None) -> Converted:
-    """Runs tools/convert with some words in a folder."""
-    done = subprocess.run([sys.executable, str(TOOLS / "convert"), *words], cwd=folder, stdin=subprocess.DEVNULL,
-                          stdout=subprocess.PIPE, stderr=subprocess.PIPE, check=False)
-    return Converted(done.returncode, done.stdout, done.stderr.decode("utf-8", "surrogateescape"))
+def convert(words: list[str]) -> Converted:
+    """Converts, in this process."""
+    result, lines = converted(words)
+    return Converted(1 if result is None else 0, result or b"", "".join(line + "\n" for line in lines))
 
 
 def convert_text(text: bytes, words: list[str], name: str = "F.st") -> Converted:
-    """Converts a file of that name with some words before it."""
+    """Converts a file of that name with some words before it. Reports have its name alone."""
     with tempfile.TemporaryDirectory() as folder:
-        (Path(folder) / name).write_bytes(text)
-        return convert([*words, name], Path(folder))
+        path = Path(folder) / name
+        path.write_bytes(text)
+        found = convert([*words, str(path)])
+    return Converted(found.status, found.out, found.report.replace(folder + "/", ""))
+
+
+def run_tool(words: list[str]) -> Converted:
+    """Runs tools/convert as a program of its own."""
+    done = subprocess.run([sys.executable, str(TOOLS / "convert"), *words], stdin=subprocess.DEVNULL,
+                          stdout=subprocess.PIPE, stderr=subprocess.PIPE, check=False)
+    return Converted(done.returncode, done.stdout, done.stderr.decode("utf-8", "surrogateescape"))
 
 
 def run(command: list[str], word: str, text: bytes) -> bytes:

@@ -224,13 +224,17 @@ def words_of(arguments: list[str]) -> Words:
     return Words(found.paths, found.tool, found.initialize, found.each, found.link)
 
 
-def main(arguments: list[str]) -> int:
-    """Converts, and answers the status: 0 if a file was written, 1 if something is refused."""
+def converted(arguments: list[str]) -> tuple[bytes | None, list[str]]:
+    """The interchange file, None where something is refused, and the lines of the report."""
     conversion = Conversion(words_of(arguments))
     result = conversion.run()
-    for line in conversion.report.lines():
+    return result, conversion.report.lines()
+
+
+def main(arguments: list[str]) -> int:
+    """Converts, and answers the status: 0 if a file was written, 1 if something is refused."""
+    result, lines = converted(arguments)
+    for line in lines:
         sys.stderr.buffer.write(line.encode("utf-8", "surrogateescape") + b"\n")
-    if result is None:
-        return 1
-    sys.stdout.buffer.write(result)
-    return 0
+    sys.stdout.buffer.write(result or b"")
+    return 1 if result is None else 0
