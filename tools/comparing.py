@@ -3,7 +3,11 @@ import argparse
 import collections
 import concurrent.futures
 import functools
+import importlib.machinery
+import importlib.util
 import os
+import random
+import re
 import subprocess
 import sys
 import time
@@ -45,6 +49,15 @@ def program():
     return found.stdout.strip() if found.returncode == 0 else sys.exit(1)
 
 
+def script(name):
+    """Another script of this folder, as a module."""
+    loader = importlib.machinery.SourceFileLoader(name.replace("-", "_"), os.path.join(TOP, "tools", name))
+    module = importlib.util.module_from_spec(importlib.util.spec_from_loader(loader.name, loader))
+    sys.dont_write_bytecode = True
+    loader.exec_module(module)
+    return module
+
+
 def answer(words, data, cuts=()):
     """The status, output and report of the program for an input that is written in the pieces that the cuts make.
 
@@ -65,6 +78,17 @@ def answer(words, data, cuts=()):
             out, report = run.communicate()
             report += b"it hadn't ended after %d seconds" % LONGEST
     return run.returncode, out, report
+
+
+def limits(seed, report):
+    """The words for seven limits that a program is tried under: the usual ones, and no greater ones than it took under those."""
+    rng = random.Random(seed)
+    yield []
+    took = re.match(rb"stx: steps (\d+) depth (\d+) cells (\d+)", report)
+    for number, name in enumerate(("steps", "depth", "cells"), 1):
+        most = int(took[number]) if took else 0
+        for _ in range(2 if most > 1 else 0):
+            yield ["--" + name, str(rng.randint(1, most))]
 
 
 def results(pool, differs, cases):

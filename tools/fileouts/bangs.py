@@ -10,9 +10,8 @@ from interchange.chunks import chunks
 from interchange.places import WHITE, Text
 from interchange.tokens import Dialect, Kind, tokens_of
 
-from .definitions import Definitions
 from .program import MethodItem, Program
-from .sources import Origin, Source, shown
+from .sources import Origin, Source
 from .statements import take_statements
 
 _METHODS = re.compile(rb"\s*([\w.]+)(\s+class)?\s+(?:methodsFor|publicMethodsFor|privateMethodsFor)\b:?")
@@ -41,7 +40,7 @@ def read(program: Program, source: Source) -> None:
 
 
 def texts(source: Source) -> Iterator[Text]:
-    """The file's chunks by the rule of its tool; where that leaves a string open, and nothing says which, by the other."""
+    """The file's chunks by the rule of its tool. Where none is known, and the first leaves a string open, by GNU's."""
     if source.tool.bangs_in_strings:
         return by_tokens(source)
     plain = [chunk.text for chunk in chunks(source.data)]

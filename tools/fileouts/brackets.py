@@ -2,7 +2,6 @@
 from __future__ import annotations
 
 from interchange.bodies import Parser
-from interchange.places import Text
 from interchange.tokens import Dialect, Kind, Token, tokens_of
 
 from .definitions import SHAPES, is_good_name

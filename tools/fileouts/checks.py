@@ -6,7 +6,7 @@ from interchange.bodies import Body, Name, Parser, Variable, parts
 
 from .code import nested_names
 from .names import AS_OBJECT, Names, Stands
-from .program import ClassItem, CodeItem, Declares, MethodItem, NameItem, Program, Target
+from .program import ClassItem, Declares, MethodItem, NameItem, Program, Target
 from .sources import Report, shown
 
 
@@ -120,7 +120,7 @@ def _put_names(program: Program, names: Names) -> None:
             parser = Parser(origin.bytes, origin.source.tool.dialect)
             body = parser.method().body if isinstance(item, MethodItem) else parser.body()
             for name in sorted(nested_names(body)):
-                if name not in names.globals and not names.is_class(name):
+                if name not in names.globals and name not in names.pools and not names.is_class(name):
                     names.globals[name] = Stands.ASSIGNABLE
                     names.fresh[name] = origin.spot()
 

@@ -4,14 +4,14 @@ from __future__ import annotations
 import re
 from dataclasses import dataclass, field
 
-from interchange.bodies import (CONSTANTS, Block, Body, Brace, Expression, Fault, Literal, Message, Method, Name, Operand,
-                                Paren, Parser, Pragma, Variable, parts)
+from interchange.bodies import (Block, Body, Brace, Expression, Fault, Literal, Message, Name, Operand, Paren, Parser,
+                                Pragma, Variable, parts)
 from interchange.elements import is_name
-from interchange.tokens import Kind
+from interchange.tokens import Kind, tokens_of
 
 from .edits import Edits, trimmed, with_line_feeds
 from .names import Names, Stands
-from .program import CodeItem, Declares, MethodItem, NameItem, Target
+from .program import CodeItem, MethodItem, Target
 from .sources import Origin, Report, Spot, shown
 
 FAULTS = {
@@ -28,6 +28,9 @@ ANSWERS_STRING = frozenset((b"printString", b"displayString", b"asString", b"pri
 SHOWS = {b"show:": b"displayString", b"display:": b"displayString", b"print:": b"printString"}
 APPLIES = frozenset((b"ifTrue:", b"ifFalse:", b"ifTrue:ifFalse:", b"ifFalse:ifTrue:", b"and:", b"or:"))
 STANDARD_SPACES = frozenset((b"Smalltalk", b"Core", b"Kernel", b"Root", b"SystemExceptions"))
+EACH = (b"[%s]\n\ton: Error\n\tdo: [:error | Transcript show: error class name; show: ': '; "
+        b"show: error messageText displayString; cr]")
+"""A piece of code whose Errors are shown, and don't end the program."""
 _PLAIN_INTEGER = re.compile(rb"-?[0-9]+(?:r[0-9A-Z]+)?\Z")
 
 
@@ -47,6 +50,7 @@ class Coder:
     names: Names
     report: Report
     shared: dict[int, set[bytes]] = field(default_factory=dict)
+    each: bool = False
     sent: dict[bytes, Spot] = field(default_factory=dict)
     wanted: dict[bytes, Spot] = field(default_factory=dict)
     applies_objects: bool = False
@@ -60,7 +64,10 @@ class Coder:
         scope = Scope(item.name, True) if item.target is Target.CLASS and self.names.is_class(item.name) else Scope()
         scope.is_doit = item.target is Target.PROGRAM
         texts = [self._part(variable, origin, scope) for variable, origin in item.parts]
-        return None if None in texts else b"\n".join(texts)
+        if None in texts:
+            return None
+        text = b"\n".join(texts)
+        return EACH % text if self.each and scope.is_doit and has_code(text) else text
 
     def _part(self, variable: bytes, origin: Origin, scope: Scope) -> bytes | None:
         walk = Walk(self, origin, scope)
@@ -110,7 +117,7 @@ class Walk:
         for fault in parser.faults:
             self._refuse(fault.at, self._said(fault))
         for token in parser.tokens:
-            if token.kind is Kind.CHARACTER and token.value >= 0xC2 and self.text[token.end : token.end + 1] > b"\x7f":
+            if token.kind is Kind.CHARACTER and token.end - token.start > 2:
                 self._refuse(token.start, "a character beyond one byte")
             elif token.kind is Kind.ASSIGN and token.text == b"_":
                 self.edits.replace(token.start, token.end, b":=")
@@ -280,7 +287,8 @@ class Walk:
 
     def _periods_out(self, brace: Brace) -> None:
         """Takes out the periods between the elements of a brace."""
-        bounds = [brace.start + 1, *[at for element in brace.elements for at in (element.start, element.end)], brace.end - 1]
+        inner = [at for element in brace.elements for at in (element.start, element.end)]
+        bounds = [brace.start + 1, *inner, brace.end - 1]
         for start, end in zip(bounds[::2], bounds[1::2]):
             for token in Parser(self.text[start:end], self.dialect).tokens:
                 if token.kind is Kind.PERIOD:
@@ -322,7 +330,7 @@ class Walk:
             self._unknown(real, variable.start)
 
     def _without_space(self, variable: Variable) -> bytes:
-        """The last part of a dotted name, where its namespace is one of the standard ones or has a class of the files."""
+        """The last part of a dotted name, where its namespace is a standard one or has a class of the files."""
         space, _, name = variable.text.rpartition(b".")
         if all(part in STANDARD_SPACES for part in space.split(b".")) or name in self.names.classes:
             return name
@@ -331,6 +339,9 @@ class Walk:
 
     def _unknown(self, name: bytes, at: int) -> None:
         """A name that nothing declares: in statements of a file a global variable, in a method refused."""
+        if name in self.names.pools:
+            self._refuse(at, "%s is a pool, and no object here" % shown(name))
+            return
         if not self.scope.is_doit or name == b"Smalltalk":
             self._refuse(at, "%s is declared nowhere" % shown(name))
             return
@@ -467,6 +478,11 @@ class Walk:
                 before is not None and before.selector in ANSWERS_STRING)
             if message.selector == b"collect:" and is_string:
                 self._warn(message.start, "collect: of a String answers an Array here", "collect:")
+
+
+def has_code(text: bytes) -> bool:
+    """Whether more than comments stands in a text."""
+    return bool(tokens_of(text).tokens)
 
 
 def answers_string(operand: Operand) -> bool:

@@ -9,10 +9,9 @@ from pathlib import Path
 
 from interchange import builtins
 from interchange.bodies import Parser
-from interchange.tokens import tokens_of
 
 from . import additions, bangs, brackets, checks, filetree, interchange_files, library, tonel
-from .code import Coder
+from .code import Coder, has_code
 from .linked import wishes_of, with_library
 from .names import Names
 from .program import Item, MethodItem, Program, Target
@@ -59,11 +58,11 @@ class Conversion:
         self._loaded()
         names = Names(self.program, library.load())
         checks.settle_classes(self.program, names)
-        coder = Coder(names, self.report, checks.shared_names(self.program))
+        coder = Coder(names, self.report, checks.shared_names(self.program), self.words.each)
         texts = self._texts(coder)
         checks.settle_methods(self.program, names)
         checks.settle_code(self.program, names)
-        rows = self._rows(names)
+        rows = self._rows(names, coder)
         self._unanswered(coder, names)
         if self.report.refusals:
             return None
@@ -102,7 +101,8 @@ class Conversion:
 
     def _folder(self, folder: Path) -> None:
         """A folder: FileTree's folders of classes in it, and all other Smalltalk files."""
-        classes = sorted(path for pattern in ("*.class", "*.extension") for path in folder.rglob(pattern) if path.is_dir())
+        classes = sorted(path for path in folder.rglob("*")
+                         if path.suffix in (".class", ".extension") and path.is_dir())
         if folder.suffix in (".class", ".extension"):
             classes.insert(0, folder)
         for path in classes:
@@ -159,21 +159,30 @@ class Conversion:
                 kept.append(item)
                 continue
             text = coder.code(item)
-            if text is not None and not (item.target is Target.PROGRAM and not has_code(text) and not item.annotations):
+            is_empty = item.target is Target.PROGRAM and not item.annotations and not has_code(text or b"")
+            if text is not None and not is_empty:
                 texts[item] = text
                 kept.append(item)
         self.program.items = kept
         return texts
 
-    def _rows(self, names: Names) -> list[additions.Row]:
+    def _rows(self, names: Names, coder: Coder) -> list[additions.Row]:
         rows = additions.print_rows(self.program, names) if self._is_foreign() else []
         having = additions.has_initialize(self.program)
         if self._initializes():
             return additions.initialize_rows(self.program, names) + rows
-        if having and self.words.initialize is None and self._initializes() is None:
-            self.report.warn(having[0].spot, "whether `new` sends `initialize` depends on the tool: say --from or "
-                             "--initialize", "initialize")
+        if having and self.words.initialize is None:
+            self._warn_of_initialize(having[0], coder)
         return rows
+
+    def _warn_of_initialize(self, item: MethodItem, coder: Coder) -> None:
+        """Warns where `new` may have sent `initialize`, and doesn't here."""
+        if self._initializes() is None:
+            self.report.warn(item.spot, "whether `new` sends `initialize` depends on the tool: say --from or "
+                             "--initialize")
+        elif item.spot.source.tool.is_gst and b"initialize" not in coder.sent:
+            self.report.warn(item.spot, "`new` doesn't send `initialize` up to version 3.2.5: say "
+                             "--initialize=yes for later ones")
 
     def _is_foreign(self) -> bool:
         return any(source.tool.name != "ansi" for source in self.program.sources)
@@ -202,15 +211,10 @@ def is_initialize(item: MethodItem) -> bool:
     return Parser(item.origin.bytes, source.tool.dialect).method().selector == b"initialize"
 
 
-def has_code(text: bytes) -> bool:
-    """Whether more than comments stands in a text."""
-    return bool(tokens_of(text).tokens)
-
-
 def words_of(arguments: list[str]) -> Words:
     """The words, or an end with status 2."""
-    parser = argparse.ArgumentParser(prog="convert", description="Writes one interchange file of what other Smalltalks "
-                                     "file out. docs/fileouts.md says what converts and what is refused.")
+    about = "Writes one interchange file of what other Smalltalks file out. docs/fileouts.md says what becomes what."
+    parser = argparse.ArgumentParser(prog="convert", description=about)
     parser.add_argument("paths", nargs="+", type=Path, metavar="FILE|FOLDER")
     parser.add_argument("--from", dest="tool", choices=sorted(TOOLS), help="the tool, where no sign tells it")
     parser.add_argument("--initialize", choices=("yes", "no"), help="whether `new` sends `initialize`")
@@ -220,13 +224,17 @@ def words_of(arguments: list[str]) -> Words:
     return Words(found.paths, found.tool, found.initialize, found.each, found.link)
 
 
-def main(arguments: list[str]) -> int:
-    """Converts, and answers the status: 0 if a file was written, 1 if something is refused."""
+def converted(arguments: list[str]) -> tuple[bytes | None, list[str]]:
+    """The interchange file, None where something is refused, and the lines of the report."""
     conversion = Conversion(words_of(arguments))
     result = conversion.run()
-    for line in conversion.report.lines():
+    return result, conversion.report.lines()
+
+
+def main(arguments: list[str]) -> int:
+    """Converts, and answers the status: 0 if a file was written, 1 if something is refused."""
+    result, lines = converted(arguments)
+    for line in lines:
         sys.stderr.buffer.write(line.encode("utf-8", "surrogateescape") + b"\n")
-    if result is None:
-        return 1
-    sys.stdout.buffer.write(result)
-    return 0
+    sys.stdout.buffer.write(result or b"")
+    return 1 if result is None else 0

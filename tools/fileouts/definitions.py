@@ -373,7 +373,8 @@ class Definitions:
         if text is not None:
             return [(name, self._spot(operand)) for name in text.split()]
         if isinstance(primary, Literal) and primary.kind == "array" and not operand.messages:
-            return [(item.value if isinstance(item.value, bytes) else b"?", self._spot(item)) for item in primary.value]
+            return [(item.value if isinstance(item.value, bytes) else b"?", self._spot(item))
+                    for item in primary.value]
         if isinstance(primary, Brace) and not operand.messages:
             return [(self._slot(element), self._spot(element)) for element in primary.elements]
         self._refuse(operand, "%s asks for a literal list of names" % shown(key))
@@ -383,11 +384,10 @@ class Definitions:
         """The name of a slot: `#x`, or `#x => InstanceVariableSlot`; another slot is no name."""
         primary = element.operand.primary
         if isinstance(primary, Literal) and primary.kind == "symbol" and not element.targets:
-            plain = [message.selector for message in element.messages]
-            if not plain:
+            if not element.messages:
                 return primary.value
-            kind = self.origin.bytes[element.operand.messages[0].arguments[0].start : element.end] if plain == [b"=>"] else b""
-            if kind in (b"InstanceVariableSlot", b"ClassVariable"):
+            written = self.origin.bytes[primary.end : element.end].split()
+            if written in ([b"=>", b"InstanceVariableSlot"], [b"=>", b"ClassVariable"]):
                 return primary.value
         if isinstance(primary, Variable) and not element.messages:
             return primary.text.rpartition(b".")[2]

@@ -5,11 +5,9 @@ import json
 from collections.abc import Callable
 from pathlib import Path
 
-from interchange.places import Text
-
 from .definitions import is_good_name
 from .program import ClassItem, MethodItem, Program
-from .sources import Origin, Source, Spot, shown
+from .sources import Origin, Source, Spot
 
 _TYPES = {"normal": b"none", "variable": b"object", "bytes": b"byte"}
 _LISTS = {"instvars": "instance", "classvars": "class_variables", "pools": "pools", "classinstvars": "class_instance"}

@@ -1,6 +1,7 @@
 """Interchange files: taken unit by unit, also such as `stx` doesn't read as they are."""
 from __future__ import annotations
 
+from interchange import builtins
 from interchange.elements import File, Unit, UnitKind, read as read_units
 
 from .program import (ClassItem, CodeItem, CommentItem, Declares, MethodItem, NameItem, Program, Target)
@@ -59,10 +60,7 @@ def _text(program: Program, origin: Origin, unit: Unit, spot: Spot, classes: set
         program.add(MethodItem(unit.name, unit.class_side, origin, unit.annotations))
         return
     target = _TARGETS[unit.kind]
-    if target is Target.NAME and (unit.name in classes or unit.name[:1].isupper() and unit.name not in _globals(program)):
+    if target is Target.NAME and (unit.name in classes or unit.name in builtins.classes()):
         target = Target.CLASS
     program.add(CodeItem(target, [(b"", origin)], spot, unit.name, unit.pool, unit.annotations))
 
-
-def _globals(program: Program) -> set[bytes]:
-    return {item.name for item in program.items if isinstance(item, NameItem) and not item.pool}

@@ -2,6 +2,7 @@
 from __future__ import annotations
 
 from dataclasses import dataclass, field
+from functools import cache
 from pathlib import Path
 
 from interchange.elements import METHODS, File, Unit, UnitKind, read
@@ -32,9 +33,10 @@ class Library:
                 self.methods.add((unit.name, unit.class_side, method.selector))
 
 
+@cache
 def load(folder: Path = FOLDER) -> Library:
     """The library of a folder, empty where there is none."""
     library = Library()
-    for path in sorted(folder.rglob("*.sif")) if folder.is_dir() else []:
+    for path in sorted(folder.glob("*.sif")):
         library.take(read(path.read_bytes()))
     return library

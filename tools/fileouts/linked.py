@@ -1,7 +1,9 @@
 """What a converted program needs of the library is added to it."""
 from __future__ import annotations
 
-from linking.library import FOLDER, library
+from functools import cache
+
+from linking.library import FOLDER, Library, library
 from linking.writing import link, source
 
 from . import interchange_files
@@ -29,8 +31,13 @@ def wishes_of(program: Program, compares: bool, applies_objects: bool) -> list[s
 
 def with_library(text: bytes, wishes: list[str]) -> bytes:
     """The program with what it needs of the library, laid out like the rest."""
-    added = link([source("", text)], library(FOLDER, wishes))
+    added = link([source("", text)], _library(tuple(wishes)))
     return laid_out(added.text)
+
+
+@cache
+def _library(wishes: tuple[str, ...]) -> Library:
+    return library(FOLDER, list(wishes))
 
 
 def laid_out(text: bytes) -> bytes:

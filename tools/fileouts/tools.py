@@ -67,6 +67,7 @@ _SIGNS = (
     (rb"\bmethodsFor:\s*'[^']*'\s+stamp:|\bcommentStamp:\s*'", "squeak"),
     (rb"\b(?:displayNl|printNl|displayString printNl)\b", "gst"),
 )
+_TONEL_WORDS = (b"Class", b"Extension", b"Trait", b"Package")
 _SQUEAK_BEFORE_INITIALIZE = re.compile(rb"'From Squeak(?:[12]\.|3\.[0-8])")
 _CHUNK_FILE = re.compile(rb"(?:^|!)\s*[\w.]+(?: class)? +(?:methodsFor\b|commentStamp:)", re.MULTILINE)
 
@@ -100,7 +101,7 @@ def format_of(data: bytes) -> Format:
         return Format.STEPTALK
     tokens = tokens_of(text, Dialect(foreign=True, bang_ends=True)).tokens
     kinds = [token.kind for token in tokens[:2]]
-    if kinds == [Kind.IDENTIFIER, Kind.BRACE_OPEN] and tokens[0].text in (b"Class", b"Extension", b"Trait", b"Package"):
+    if kinds == [Kind.IDENTIFIER, Kind.BRACE_OPEN] and tokens[0].text in _TONEL_WORDS:
         return Format.TONEL
     if _begins_interchange(tokens):
         return Format.INTERCHANGE

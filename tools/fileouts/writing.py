@@ -70,7 +70,8 @@ def _method(name: bytes, class_side: bool, text: bytes, annotations: list[tuple[
 
 
 def _code(item: CodeItem, text: bytes) -> bytes:
-    heads = {Target.PROGRAM: b"Global initializer", Target.POOL_NAME: b"%s initializerFor: '%s'" % (item.pool, item.name)}
+    heads = {Target.PROGRAM: b"Global initializer",
+             Target.POOL_NAME: b"%s initializerFor: '%s'" % (item.pool, item.name)}
     head = heads.get(item.target, b"%s initializer" % item.name)
     return b"".join([head, b"!\n", doubled(text), b"! !\n", *_annotations(item.annotations)]) + b"\n"
 

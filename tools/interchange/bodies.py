@@ -26,7 +26,8 @@ CONSTANTS = frozenset((b"nil", b"true", b"false"))
 
 @dataclass(slots=True)
 class Fault:
-    """What can't stand: the offset in the text, and the reason as `stx` names it."""
+    """What can't stand: the offset in the text, and the reason as `stx` names it. In a foreign text a second message
+    behind one semicolon is the reason Cascade."""
 
     at: int
     reason: str
@@ -178,7 +179,7 @@ Primary = Literal | Variable | Paren | Block | Brace
 
 @dataclass(slots=True)
 class Method:
-    """A method: its pattern's selector and parameters, and its body. `pattern_end` is the offset behind the pattern."""
+    """A method: its pattern's selector and parameters, and its body. The pattern ends before `pattern_end`."""
 
     selector: bytes
     parameters: list[Name]
@@ -398,10 +399,14 @@ class Parser:
         if has_period:
             self._take()
         elif not self._ends(inside):
-            self._stop()
+            self._stop("Cascade" if expression.cascade and self._message_follows() else "Syntax")
         if caret is not None and not self.dialect.foreign and not self._ends(inside):
             self._stop()
         return has_period
+
+    def _message_follows(self) -> bool:
+        """Whether a foreign text goes on with a message behind those of a cascade, which none of them may have."""
+        return self.dialect.foreign and self._kind() in (Kind.IDENTIFIER, Kind.OPERATOR, Kind.KEYWORD)
 
     # expressions and messages
 

@@ -95,6 +95,7 @@ _GROUPED_INTEGER = re.compile(rb"([0-9]+(?:_[0-9]+)*)(?:r(-?)([0-9A-Z]+(?:_[0-9A
 _FRACTION = re.compile(rb"\.[0-9][0-9A-Z]*")
 _EXPONENT = re.compile(rb"[edq](-?)([0-9]+)")
 _SCALE = re.compile(rb"s[0-9]*(?![A-Za-z0-9_])")
+_UTF_8 = re.compile(rb"[\xc2-\xf4][\x80-\xbf]+")
 _SIGNS = {kind.value.encode(): kind for kind in (
     Kind.PAREN_OPEN, Kind.PAREN_CLOSE, Kind.BLOCK_OPEN, Kind.BLOCK_CLOSE, Kind.CARET, Kind.PERIOD, Kind.SEMICOLON)}
 _BRACES = {b"{": Kind.BRACE_OPEN, b"}": Kind.BRACE_CLOSE}
@@ -124,7 +125,7 @@ def tokens_of(text: bytes, dialect: Dialect = STX) -> Tokens:
 
 
 def value_of(figures: bytes, radix: int) -> int | None:
-    """The number that figures make, None where one isn't below the radix. Past 2^127 only that it is larger is told."""
+    """The number that figures make, None where one isn't below the radix. Past 2^127 only this is told."""
     value = 0
     for byte in figures:
         figure = byte - 0x30 if byte < 0x3A else byte - 0x41 + 10
@@ -167,7 +168,7 @@ class _Reader:
         if sign == b"$":
             if at + 1 == len(self.text):
                 return self.fault(at, "BadCharacter")
-            return self.made(Kind.CHARACTER, at, at + 2, self.text[at + 1])
+            return self.made(Kind.CHARACTER, at, self.character_end(at), self.text[at + 1])
         if sign == b"'":
             return self.quoted(Kind.STRING, at, at)
         if sign == b"#":
@@ -180,6 +181,11 @@ class _Reader:
         if sign in _BRACES and self.dialect.foreign:
             return self.made(_BRACES[sign], at, at + 1)
         return self.fault(at, "BadCharacter")
+
+    def character_end(self, at: int) -> int:
+        """A character is one byte; in a foreign text the bytes of one in UTF-8 are taken together."""
+        found = _UTF_8.match(self.text, at + 1) if self.dialect.foreign else None
+        return found.end() if found else at + 2
 
     def word(self, at: int) -> Token:
         form = _DOTTED if self.dialect.dotted_names else _IDENTIFIER

@@ -37,7 +37,10 @@ def program(body: str) -> str:
 
 CASES = (
     Case("nothing is added where nothing is wanted", program("Transcript show: 3 printString"), writes="3"),
-    Case("a message that is sent", program("Transcript show: #(1 2) sum printString"), ("Collection>>sum",), writes="3"),
+    Case("a literal alone wants nothing", program("'ab' do: [:each | Transcript show: (each = $b) printString]"),
+         writes="falsetrue"),
+    Case("a message that is sent", program("Transcript show: #(1 2) sum printString"),
+         ("Collection>>sum",), writes="3"),
     Case("what is added may need more", program("Transcript show: #(1 2) average printString"),
          ("Collection>>sum", "Collection>>average"), writes="3/2"),
     Case("a symbol that may be sent", program("Transcript show: (3 perform: #squared) printString"),
@@ -53,12 +56,18 @@ CASES = (
     Case("the program's own class stays",
          VERSION + CLASS % ("Bag", "Object", "") + "Bag classMethod!\nnew\n\t^3!\n"
          "Global initializer!\nTranscript show: Bag new printString!\n", writes="3"),
+    Case("a class under one of the program's stands behind it",
+         VERSION + CLASS % ("NamedError", "Error", "") + "Global initializer!\n"
+         "[ValueNotFound new signal: 'no'] on: NamedError do: [:e | Transcript show: e messageText]!\n",
+         ("class NotFound", "class ValueNotFound", "NotFound class>>text"), writes="no"),
     Case("a class variable of that name", VERSION + CLASS % ("A", "Object", "Bag") + "A method!\nbag\n\t^Bag!\n"),
     Case("a temporary of that name", program("| Bag | Bag := 3. Transcript show: Bag printString"), writes="3"),
     Case("a method of the class side wants the class", program("Transcript show: (Set new: 5) size printString"),
          ("Set class>>new:",), writes="0"),
-    Case("and a class without its name has none", program("Transcript show: (Array new: 5) size printString"), writes="5"),
-    Case("a message that nothing has", program("3 zork"), warnings=("F:3:3: warning: #zork is sent, and no class here has it",)),
+    Case("and a class without its name has none", program("Transcript show: (Array new: 5) size printString"),
+         writes="5"),
+    Case("a message that nothing has", program("3 zork"),
+         warnings=("F:3:3: warning: #zork is sent, and no class here has it",)),
     Case("a message is warned of once", program("[3 zork. 4 zork] on: Error do: [:e | e return: nil]"),
          warnings=("F:3:4: warning: #zork is sent, and no class here has it",)),
     Case("what is wished for", program("Transcript show: (1 to: 2) = (1 to: 2)"), wishes=("values",),
@@ -80,12 +89,15 @@ def _linked(texts: dict[str, str], wishes: tuple[str, ...] = ()) -> Linked:
 
 def _of_case(case: Case, command: list[str]) -> Iterator[Check]:
     linked = _linked({"F": case.text}, case.wishes)
-    yield equal("link: %s: what is added" % case.what, tuple(entry.shown for entry in linked.added), case.added)
+    added = tuple(entry.shown for entry in linked.added)
+    yield equal("link: %s: what is added" % case.what, added, case.added)
     yield equal("link: %s: warnings" % case.what, tuple(linked.warnings), case.warnings)
-    yield equal("link: %s: linked again it is the same" % case.what, _linked({"F": linked.text.decode()}).text, linked.text)
+    again = _linked({"F": linked.text.decode()})
+    yield equal("link: %s: linked again it is the same" % case.what, again.text, linked.text)
     if case.writes:
         run = subprocess.run([*command, "run"], input=linked.text, capture_output=True, check=False)
-        yield equal("link: %s: what it writes" % case.what, (run.stdout.decode(), run.stderr.decode()), (case.writes, ""))
+        written = (run.stdout.decode(), run.stderr.decode())
+        yield equal("link: %s: what it writes" % case.what, written, (case.writes, ""))
 
 
 def _several_files() -> Iterator[Check]:
@@ -97,7 +109,8 @@ def _several_files() -> Iterator[Check]:
     at = linked.text.index(b"zork")
     yield equal("link: a place of a file", linked.told(at, "here"), "below:5:3: here")
     yield equal("link: a place of none", linked.told(0, "here"), None)
-    test = VERSION + CLASS % ("T", "TestCase", "") + "T method!\ntestA\n\t^3!\nT method!\ntests: x\n\t^3!\nT method!\nother\n\t^3!\n"
+    methods = "".join("T method!\n%s\n\t^3!\n" % pattern for pattern in ("testA", "tests: x", "other"))
+    test = VERSION + CLASS % ("T", "TestCase", "") + methods
     yield equal("link: the tests of a class", _linked({"F": test}).text.decode().endswith(
         "T classMethod!\ntestSelectors\n\t^#(#testA)! !\n"), True)
 

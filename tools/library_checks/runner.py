@@ -25,11 +25,24 @@ SAMPLE = VERSION + CLASS % ("SampleTest", "TestCase", "") + "".join(
         ("testForever", "[true] whileTrue"), ("testException", "Exception new signal: 'odd'"),
         ("testLast", "self assert: true")))
 PASSING = VERSION + CLASS % ("GoodTest", "TestCase", "") + _method("GoodTest", "testPass", "self assert: true")
-ABSTRACT = VERSION + CLASS % ("BaseTest", "TestCase", "") + _method("BaseTest", "testMine", "self assert: self five = 5") \
-    + "BaseTest classMethod!\nisAbstract\n\t^self == BaseTest!\n" + CLASS % ("InTest", "BaseTest", "") \
+ABSTRACT = VERSION + CLASS % ("BaseTest", "TestCase", "") \
+    + _method("BaseTest", "testMine", "self assert: self five = 5") + "BaseTest classMethod!\nisAbstract\n\t^self == BaseTest!\n" + CLASS % ("InTest", "BaseTest", "") \
     + _method("InTest", "five", "^Five") + _method("InTest", "testOther", "self assert: self five even")
 FIVE = VERSION + "Global constant: 'Five'!\nFive initializer!\n5!\n"
 UNDECLARED = VERSION + CLASS % ("BadTest", "TestCase", "") + _method("BadTest", "testBad", "^Zork")
+
+FOREIGN = """'From Pharo7.0.4 of 4 April 2019'!
+TestCase subclass: #SumTest
+	instanceVariableNames: ''
+	classVariableNames: ''
+	package: 'Sums'!
+!SumTest methodsFor: 'tests' stamp: 'ann 1/1/2020 10:00'!
+testSum
+	self assert: {1. 2} sum equals: 3! !
+!SumTest methodsFor: 'tests' stamp: 'ann 1/1/2020 10:01'!
+testMax
+	self assert: {1. 2} max equals: 3! !
+"""
 
 _TEXT = """\
 {0}/sample.sif:7:1: SampleTest>>#testFail failed: Got 3 instead of 4.
@@ -62,6 +75,8 @@ def checks(command: list[str]) -> Iterator[Check]:
         texts = {"sample": SAMPLE, "good": PASSING, "abstract": ABSTRACT, "five": FIVE, "undeclared": UNDECLARED}
         for name, text in texts.items():
             Path(folder, name + ".sif").write_text(text)
+        Path(folder, "foreign").mkdir()
+        Path(folder, "foreign", "sums.st").write_text(FOREIGN)
         yield from _outputs(folder, command)
         yield from _junit(folder, command)
 
@@ -75,14 +90,19 @@ def _ran(folder: str, command: list[str], words: list[str]) -> tuple[int, str, s
 
 def _outputs(folder: str, command: list[str]) -> Iterator[Check]:
     good = "1 passed, 0 failed, 0 erred, 0 skipped in 1 file\n"
-    refused = "%s/undeclared.sif:5:3: UndeclaredName\n0 passed, 0 failed, 0 erred, 0 skipped in 1 file, 1 not run\n" % folder
+    refused = "%s/undeclared.sif:5:3: UndeclaredName\n" \
+        "0 passed, 0 failed, 0 erred, 0 skipped in 1 file, 1 not run\n" % folder
     none = "%s/five.sif: no tests\n0 passed, 0 failed, 0 erred, 0 skipped in 0 files\n" % folder
+    foreign = "%s/foreign: SumTest>>#testMax failed: Got 2 instead of 3.\n" \
+        "1 passed, 1 failed, 0 erred, 0 skipped in 1 file\n" % folder
     for what, words, wanted in (
         ("each ending, and limits for each test alone", ["--steps", "1000", "sample.sif"], (1, _TEXT.format(folder))),
         ("a file that passes", ["good.sif"], (0, good)),
-        ("inherited tests, a file in use, and TAP", ["--tap", "--use", "five.sif", "abstract.sif"], (1, _TAP.format(folder))),
+        ("inherited tests, a file in use, and TAP", ["--tap", "--use", "five.sif", "abstract.sif"],
+         (1, _TAP.format(folder))),
         ("a file that is refused", ["undeclared.sif"], (1, refused)),
         ("a file without tests", ["five.sif"], (3, none)),
+        ("a folder that is converted", [folder + "/foreign"], (1, foreign)),
     ):
         yield equal("test: " + what, _ran(folder, command, words), (*wanted, ""))
     yield equal("test: no words", _ran(folder, command, [])[0], 2)

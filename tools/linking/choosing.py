@@ -2,9 +2,9 @@
 
 - A class of the library is taken, with all methods of its file, where a text names it and the program doesn't declare
   that name.
-- A method that the library gives another class is taken where its selector is sent, or stands as a symbol. For a class of
-  the library that class must be taken. On the class side, and where a built-in class answers the selector already, as
-  with `value:` or `+`, the class must be seen: a text names it or a class under it, or a literal of it stands there.
+- A method that the library gives another class is taken where its selector is sent, or stands as a symbol. For a class
+  of the library that class must be taken. On the class side a text must name the class or one under it. Where a
+  built-in class answers the selector already, as with `value:` or `+`, a text must name it so or have a literal of it.
 - What a program defines itself stays: neither that method is taken, nor one of the selector for a class under it.
 - What is taken may name more.
 - Of a file that is wished for, everything is taken; methods of classes of the library where the class is taken.
@@ -23,7 +23,7 @@ from .needs import Needs, needs_of
 _DECLARING = frozenset((UnitKind.CLASS, UnitKind.GLOBAL_VARIABLE, UnitKind.GLOBAL_CONSTANT, UnitKind.POOL))
 _BUILT_IN = frozenset(selector for _, _, selector in built_in_messages())
 _SENT_BY_LOOPS = (b"value:", b"value:value:")
-"""What built-in messages send to an object in the place of a block, though no text sends it."""
+"""What built-in messages send to an object in the place of a block, though no text sends it. A class is none."""
 _MADE_BY = {b"/": b"Fraction", b"->": b"Association"}
 """Classes whose objects are made by a message, without a name."""
 
@@ -72,7 +72,8 @@ class Choice:
             self.superclasses.setdefault(name, units[0].unit.superclass)
         self.classes: dict[bytes, list[Entry]] = {}
         self.methods: dict[Key, Entry] = {}
-        self.sent: set[bytes] = set(_SENT_BY_LOOPS)
+        self.sent: set[bytes] = set()
+        self.named: set[bytes] = set()
         self.seen: set[bytes] = set()
 
     def take_for(self, units: list[Unit]) -> None:
@@ -85,6 +86,11 @@ class Choice:
             self._need(needs_of(unit), unit.name)
         self._take_sent()
 
+    def is_late(self, entry: Entry) -> bool:
+        """Whether a unit is of a class under one that the program declares, and so stands behind the program."""
+        name = entry.unit.name
+        return name in self.classes and not self.program.names.isdisjoint(classes_above(name, self.superclasses))
+
     def answered(self) -> set[bytes]:
         """The selectors that some class of the linked program has."""
         taken = {entry.key[2] for entry in self.entries() if entry.key is not None}
@@ -93,7 +99,7 @@ class Choice:
     def entries(self) -> list[Entry]:
         """What was taken, in an order in which it may be declared: classes, then the rest."""
         taken = [entry for units in self.classes.values() for entry in units] + list(self.methods.values())
-        return sorted(taken, key=lambda entry: (entry.unit.kind is not UnitKind.CLASS, entry.number))
+        return sorted(taken, key=lambda entry: (entry.unit.kind is not UnitKind.CLASS, self.library.place(entry)))
 
     def _need(self, needs: Needs, where: bytes) -> None:
         """Notes what the text of a unit of a class names, and takes the classes of it."""
@@ -101,7 +107,7 @@ class Choice:
         for name in classes_above(where, self.superclasses):
             hidden |= self.program.variables.get(name, set())
         for name in needs.names - hidden:
-            self.seen.update(classes_above(name, self.superclasses))
+            self.named.update(classes_above(name, self.superclasses))
             self._take_class(name)
         made = {_MADE_BY[selector] for selector in needs.sent.keys() & _MADE_BY.keys()}
         if b"Transcript" in needs.names:
@@ -114,7 +120,7 @@ class Choice:
         if name in self.program.names or name in self.classes or name not in self.library.classes:
             return
         self.classes[name] = self.library.classes[name]
-        self.seen.update(classes_above(name, self.superclasses))
+        self.named.update(classes_above(name, self.superclasses))
         for entry in self.classes[name]:
             self._need(entry.needs, name)
 
@@ -129,7 +135,7 @@ class Choice:
         count = -1
         while count != len(self.methods) + len(self.classes):
             count = len(self.methods) + len(self.classes)
-            for selector in sorted(self.sent & self.library.by_selector.keys()):
+            for selector in sorted(self.sent.union(_SENT_BY_LOOPS) & self.library.by_selector.keys()):
                 for key in self.library.by_selector[selector]:
                     if self._is_wanted(key):
                         self._take_method(key)
@@ -139,7 +145,9 @@ class Choice:
         name, class_side, selector = key
         if name in self.library.classes:
             return name in self.classes
-        return name in self.seen if class_side or selector in _BUILT_IN else True
+        if class_side:
+            return name in self.named and selector in self.sent
+        return selector not in _BUILT_IN or name in self.seen or name in self.named
 
     def _is_replaced(self, key: Key) -> bool:
         """Whether the program defines the method itself, or for a built-in class above."""

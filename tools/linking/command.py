@@ -10,8 +10,8 @@ from .writing import Source, link, refusals, source
 
 ABOUT = """Makes one interchange file of several, with what they need of the library, and writes it to standard output.
 
-What was added of the library is said on standard error, and so is each message that is sent and that no class has. Where
-a file has faults, they are said there as FILE:LINE:COLUMN: Reason, nothing is written, and the status is 1."""
+What was added of the library is said on standard error, and so is each message that is sent and that no class has.
+Where a file has faults, they are said there as FILE:LINE:COLUMN: Reason, nothing is written, and the status is 1."""
 
 
 def words(arguments: list[str]) -> argparse.Namespace:
@@ -38,8 +38,7 @@ def said(added: list[Entry], tests: list[bytes]) -> list[str]:
     lines = []
     for file, entries in sorted(by_file.items()):
         classes = {entry.unit.name for entry in entries if entry.key is None}
-        shown = [entry.shown for entry in entries
-                 if entry.shown.startswith("class ") and entry.key is None or entry.unit.name not in classes]
+        shown = [entry.shown for entry in entries if entry.key is None or entry.unit.name not in classes]
         lines.append("link: of lib/%s: %s" % (file, ", ".join(dict.fromkeys(shown))))
     lines.extend("link: %s class>>testSelectors" % name.decode() for name in tests)
     return lines

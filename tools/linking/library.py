@@ -2,12 +2,14 @@
 from __future__ import annotations
 
 from dataclasses import dataclass, field
+from functools import cache, cached_property
 from pathlib import Path
 
+from interchange.bodies import Body, Method
 from interchange.builtins import classes as built_in_classes
 from interchange.elements import INITIALIZERS, METHODS, Unit, UnitKind, read
 
-from .needs import Needs, needs_of
+from .needs import Needs, needs_of, needs_of_tree
 
 FOLDER = Path(__file__).resolve().parents[2] / "lib"
 CHOSEN = "chosen"
@@ -20,17 +22,20 @@ class Unusable(Exception):
     """A file of the library that can't be used, and why."""
 
 
-@dataclass(slots=True)
+@dataclass(frozen=True)
 class Entry:
-    """A unit of the library: the file that it stands in, its bytes there, and what it names. `number` counts the units
-    of the library in the order in which they may be declared."""
+    """A unit of the library: the file that it stands in, its bytes there, and the tree of its text."""
 
     unit: Unit
     file: str
     text: bytes
-    needs: Needs
+    tree: Method | Body | None
     key: Key | None = None
-    number: int = 0
+
+    @cached_property
+    def needs(self) -> Needs:
+        """What it names."""
+        return needs_of(self.unit) if self.tree is None else needs_of_tree(self.tree)
 
     @property
     def shown(self) -> str:
@@ -50,11 +55,15 @@ class Library:
     by_selector: dict[bytes, list[Key]] = field(default_factory=dict)
     wished_classes: list[bytes] = field(default_factory=list)
     wished_methods: list[Key] = field(default_factory=list)
-    count: int = 0
+    order: dict[int, int] = field(default_factory=dict)
+
+    def place(self, entry: Entry) -> int:
+        """Which place an entry has among all, in the order in which they may be declared."""
+        return self.order[id(entry)]
 
     def add(self, entry: Entry, wished: bool) -> None:
         """Adds a unit. What is wished for stands in place of what the library has itself."""
-        entry.number = self.count = self.count + 1
+        self.order[id(entry)] = len(self.order)
         unit = entry.unit
         if unit.kind is UnitKind.CLASS:
             self.classes[unit.name] = [entry]
@@ -94,18 +103,24 @@ def wishes_of(folder: Path) -> list[str]:
 
 
 def _add_file(found: Library, path: Path, name: str, wished: bool) -> None:
-    """Adds the units of a file that a program can take: classes, methods and initializers of classes."""
+    for entry in _entries(path, name):
+        found.add(entry, wished)
+
+
+@cache
+def _entries(path: Path, name: str) -> tuple[Entry, ...]:
+    """The units of a file that a program can take: classes, methods and initializers of classes."""
     data = path.read_bytes()
     file = read(data)
     if file.troubles:
         raise Unusable("%s isn't an interchange file: %s" % (path, file.troubles[0].reason))
+    entries = []
     for unit in file.units:
-        if unit.kind is UnitKind.CLASS or unit.kind is UnitKind.INITIALIZER:
-            found.add(Entry(unit, name, source_of(unit, data), needs_of(unit)), wished)
-        elif unit.kind in METHODS:
+        if unit.kind is UnitKind.CLASS or unit.kind is UnitKind.INITIALIZER or unit.kind in METHODS:
             tree, _ = unit.parse()
-            key = (unit.name, unit.class_side, tree.selector)
-            found.add(Entry(unit, name, source_of(unit, data), needs_of(unit), key), wished)
+            key = (unit.name, unit.class_side, tree.selector) if isinstance(tree, Method) else None
+            entries.append(Entry(unit, name, source_of(unit, data), tree, key))
+    return tuple(entries)
 
 
 def source_of(unit: Unit, data: bytes) -> bytes:

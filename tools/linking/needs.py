@@ -24,13 +24,15 @@ class Needs:
 
 def needs_of(unit: Unit) -> Needs:
     """What a unit names. Of a class that is its superclass and its pools."""
-    needs = Needs()
     if unit.kind is UnitKind.CLASS:
-        needs.names.update((unit.superclass, *unit.names.pools))
-        return needs
+        return Needs(names={unit.superclass, *unit.names.pools})
     tree, _ = unit.parse()
-    if tree is None:
-        return needs
+    return Needs() if tree is None else needs_of_tree(tree)
+
+
+def needs_of_tree(tree: Method | Body) -> Needs:
+    """What a method or body names."""
+    needs = Needs()
     method = isinstance(tree, Method)
     body = tree.body if method else tree
     outer = {name.text for name in body.temporaries}

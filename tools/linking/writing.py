@@ -74,12 +74,15 @@ def link(sources: list[Source], library: Library) -> Linked:
     choice.take_for(units)
     added = choice.entries()
     tests = _tests(units, choice) if _TEST_CASE in choice.classes else {}
-    text = b"\n".join([_version(ordered[0]), *_of_library(added)]) + b"\n"
+    late = [entry for entry in added if choice.is_late(entry)]
+    before = [entry for entry in added if not choice.is_late(entry)]
+    text = b"\n".join([_version(ordered[0]), *_of_library(before)]) + b"\n"
     origins = []
     for one in ordered:
         begin, end = _behind_version(one)
         origins.append((len(text), begin, one))
         text += one.data[begin:end] + (b"\n" if end > begin else b"")
+    text += b"".join(entry.text + b"\n" for entry in late)
     text += b"".join(_selectors_method(name, selectors) for name, selectors in tests.items())
     return Linked(text, added, list(tests), _warnings(ordered, choice), origins)
 

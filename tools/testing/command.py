@@ -5,6 +5,7 @@ import argparse
 import concurrent.futures
 import os
 import shlex
+import subprocess
 import sys
 from collections.abc import Iterator
 from pathlib import Path
@@ -17,11 +18,11 @@ from .runs import Ending, FileReport, NoProgram, run_file
 
 ABOUT = """Runs the tests of files, and says how each ended.
 
-A file is an interchange file, or one that tools/convert reads. Of a folder each .sif file within is taken, and where there
-is none the folder is given to tools/convert as a whole. The tests are those of the classes under TestCase.
+A file is an interchange file, or one that tools/convert reads. Of a folder each .sif file within is taken, and where
+there is none the folder is given to tools/convert as a whole. The tests are those of the classes under TestCase.
 
-The status is 0 where all tests passed or were skipped, 1 where one didn't or a file couldn't be run, 2 for a faulty command
-line, and 3 where there was no test."""
+The status is 0 where all tests passed or were skipped, 1 where one didn't or a file couldn't be run, 2 for a faulty
+command line, and 3 where there was no test."""
 LINES = "test-lines"
 
 
@@ -40,8 +41,8 @@ def words(arguments: list[str]) -> argparse.Namespace:
     add("--tap", action="store_true", help="write TAP in place of the lines for people")
     add("--junit", metavar="FILE", type=Path, help="write JUnit's XML to a file, too")
     add("--quiet", action="store_true", help="no line of progress")
-    add("--stx", metavar="COMMAND", default=os.environ.get("STX", str(TOOLS.parent / "stx")),
-        help="the program and words before `run`; else the variable STX, else the project's own")
+    add("--stx", metavar="COMMAND", default=os.environ.get("STX"),
+        help="the program and words before `run`; else the variable STX, else what tools/program finds")
     return parser.parse_args(arguments)
 
 
@@ -52,9 +53,17 @@ def files_of(paths: list[Path]) -> Iterator[Path]:
         yield from inner or [path]
 
 
+def own_program() -> str:
+    """The built program of the project. Nothing is built here."""
+    run = subprocess.run([TOOLS / "program"], capture_output=True, text=True, check=False)
+    if run.returncode:
+        raise NoProgram(run.stderr.strip())
+    return run.stdout.strip()
+
+
 def command_of(given: argparse.Namespace) -> list[str]:
     """The command that runs a program."""
-    command = [*shlex.split(given.stx), "run"]
+    command = [*(shlex.split(given.stx) if given.stx else [own_program()]), "run"]
     for limit in ("steps", "depth", "cells"):
         if getattr(given, limit) is not None:
             command += ["--" + limit, str(getattr(given, limit))]
@@ -71,7 +80,8 @@ def run_all(given: argparse.Namespace, found: Library) -> list[FileReport]:
         for report in pool.map(lambda path: run_file(path, given.uses, found, command), files):
             reports.append(report)
             if shows:
-                print("\r\x1b[K%d of %d: %s" % (len(reports), len(files), totals(reports)), end="", file=sys.stderr, flush=True)
+                line = "\r\x1b[K%d of %d: %s" % (len(reports), len(files), totals(reports))
+                print(line, end="", file=sys.stderr, flush=True)
     if shows:
         print("\r\x1b[K", end="", file=sys.stderr)
     return reports

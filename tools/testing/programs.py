@@ -3,10 +3,12 @@ from __future__ import annotations
 
 import subprocess
 from dataclasses import dataclass
+from functools import cached_property
 from pathlib import Path
 
 from interchange.chunks import chunks
 from interchange.elements import UnitKind
+from interchange.places import Lines
 from linking.library import Library, classes_above
 from linking.writing import Linked, Source, link, refusals, source
 
@@ -18,7 +20,7 @@ class Refused(Exception):
     """A file that isn't a program, and the lines that say why."""
 
 
-@dataclass(slots=True)
+@dataclass
 class TestProgram:
     """What was linked, and the classes of its tests."""
 
@@ -32,13 +34,15 @@ class TestProgram:
         lines += [b"%s suite run: lines." % name for name in self.classes]
         return self.linked.text + b"\n".join(lines) + b"\nlines end! !\n"
 
-    def place(self, name: bytes, selector: bytes) -> tuple[int, int] | None:
-        """Line and column of a test's method, None where the class inherits it."""
-        for unit in self.file.file.methods():
-            if unit.name == name and not unit.class_side and unit.parse()[0].selector == selector:
-                place = self.file.told(unit.text.text.trimmed().start, "").rsplit(":", 3)
-                return int(place[1]), int(place[2])
-        return None
+    @cached_property
+    def places(self) -> dict[tuple[str, str], tuple[int, int]]:
+        """Line and column of each method of the file but those of class sides, by class and selector. None are told of
+        what was converted."""
+        if self.file.name.endswith(", converted"):
+            return {}
+        lines = Lines(self.file.data)
+        return {(unit.name.decode(), unit.parse()[0].selector.decode()): lines.place(unit.text.text.trimmed().start)
+                for unit in self.file.file.methods() if not unit.class_side}
 
     def told(self, element: int, byte: int, reason: str) -> str | None:
         """A refusal of the program as a line about a file, None where it speaks of no file of the program."""
@@ -65,9 +69,16 @@ def interchange_of(path: Path) -> bytes:
     return run.stdout
 
 
+def _source_of(path: Path) -> Source:
+    """A file of the program. Places in what was converted aren't those of the file, and say so."""
+    data = interchange_of(path)
+    is_own = path.is_file() and path.read_bytes() == data
+    return source(str(path) if is_own else "%s, converted" % path, data)
+
+
 def test_program(path: Path, uses: list[Path], library: Library) -> TestProgram | None:
     """The program for the tests of a file, with the files that it is used with; None where it has no tests."""
-    sources = [source(str(one), interchange_of(one)) for one in (*uses, path)]
+    sources = [_source_of(one) for one in (*uses, path)]
     refused = [line for one in sources for line in refusals(one)]
     if refused:
         raise Refused("\n".join(refused))

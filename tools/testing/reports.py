@@ -33,7 +33,8 @@ def text_of(reports: list[FileReport]) -> str:
             lines.append("%s: no tests" % report.name)
         for outcome in report.outcomes:
             if outcome.ending is not Ending.PASS:
-                lines.append("%s: %s %s: %s" % (where(report, outcome), outcome.name, outcome.ending.value, outcome.text))
+                said = (where(report, outcome), outcome.name, outcome.ending.value, outcome.text)
+                lines.append("%s: %s %s: %s" % said)
     return "".join(line + "\n" for line in [*lines, totals(reports)])
 
 

@@ -1,8 +1,8 @@
 """Runs of a test program, and what became of each test.
 
-All tests of a file run one after the other. Where a limit or an exception that nothing handles ends the run, that is how
-the test ended that was running then, and another run goes on behind it. Where that test wasn't the first of its run, it
-gets a run that begins with it, since the tests before it have used up of the limits.
+All tests of a file run one after the other. Where a limit or an exception that nothing handles ends the run, that is
+how the test ended that was running then, and another run goes on behind it. Where that test wasn't the first of its
+run, it gets a run that begins with it, since the tests before it have used up of the limits.
 """
 from __future__ import annotations
 
@@ -105,7 +105,7 @@ def _outcomes(program: TestProgram, command: list[str]) -> list[Outcome]:
             run.running.text = run.report.removeprefix("stx: ").strip()
             found.append(run.running)
     for outcome in found:
-        outcome.place = program.place(outcome.class_name.encode(), outcome.selector.encode())
+        outcome.place = program.places.get((outcome.class_name, outcome.selector))
     return found
 
 

@@ -27,7 +27,7 @@ pub struct Collections {
 impl Collections {
     pub fn new(alloc: Global, row: &Row) -> Result<Collections, OutOfMemory> {
         Ok(Collections {
-            heap: ListHeap::new(alloc, row.limit(0))?,
+            heap: ListHeap::new(alloc, row.cells())?,
             names: Names::new(alloc),
         })
     }

@@ -12,8 +12,8 @@ use st_tree::units::{Definition, UnitList};
 use std::alloc::Global;
 use std::fmt::Write;
 
-// The greatest limit of cells.
-const MOST_CELLS: u32 = 67_108_864;
+// How many cells a literal may take.
+const MOST_LITERALS: u64 = 1_000_000;
 
 /// A heap of lists and one of cells, to which the same calls are made.
 #[derive(Drop)]
@@ -25,9 +25,9 @@ pub struct Heaps {
 impl Heaps {
     /// Heaps with this limit, and in each a literal String of so many slots and bytes.
     pub fn new(alloc: Global, row: &Row) -> Result<Heaps, OutOfMemory> {
-        let (limit, slots, bytes) = (row.limit(0), row.limit(1), row.limit(2));
+        let (limit, slots, bytes) = (row.cells(), row.limit(1), row.limit(2));
         let charge = charge_of(slots, bytes);
-        if limit > MOST_CELLS || charge > MOST_CELLS as u64 {
+        if charge > MOST_LITERALS {
             return Err(OutOfMemory);
         }
         let mut plain = ListHeap::new(alloc, limit)?;

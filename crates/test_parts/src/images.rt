@@ -23,7 +23,7 @@ impl Program {
     pub fn new(alloc: Global, row: &Row) -> Result<Program, OutOfMemory> {
         Ok(Program {
             image: build(alloc, definition_of(alloc, row)?)?,
-            heap: ListHeap::new(alloc, row.limit(0))?,
+            heap: ListHeap::new(alloc, row.cells())?,
             contexts: Contexts::new(alloc, row.limit(1), 0)?,
         })
     }

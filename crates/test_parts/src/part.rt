@@ -1,4 +1,5 @@
 // A row, and what its calls are made to.
+ghost use Rattle.std.specs.Prelude.{◌≤◌};
 
 use crate::call::Call;
 use serde::Deserialize;
@@ -27,7 +28,22 @@ pub struct Row {
     pub calls: Vec<String>,
 }
 
+// The greatest limit of cells.
+const MOST_CELLS: u32 = 67_108_864;
+
 impl Row {
+    /// The limit of a heap's cells.
+    pub fn cells(&self) -> u32
+        ensures { result ≤ 67108864 }
+    {
+        let limit = self.limit(0);
+        if limit > MOST_CELLS {
+            MOST_CELLS
+        } else {
+            limit
+        }
+    }
+
     /// A limit, or 0.
     pub fn limit(&self, at: usize) -> u32 {
         match self.limits.get(at) {

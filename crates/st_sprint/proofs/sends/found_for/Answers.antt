@@ -1,0 +1,7 @@
+use Rattle.st_code.specs.Lookup.{level}
+use Rattle.program_image.specs.Images.{on_side}
+use Rattle.st_sprint.proofs.AtOnce.{finds_if}
+use Rattle.st_sprint.proofs.sends.found_for.Goals as goal
+
+pub returns : goal.returns
+returns g c = finds_if c.found_from.result (level (on_side c.level_for.result.side) c.level_for.result.class) c.args.selector c.args.receiver c.args.machine.now c.level_for.ensures c.found_from.ensures
