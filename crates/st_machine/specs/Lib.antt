@@ -19,4 +19,3 @@ pub mod Running
 pub mod Meaning
 pub mod Sound
 pub mod Followed
-pub mod KnownSends

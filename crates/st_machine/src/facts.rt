@@ -9,6 +9,7 @@ ghost use Rattle.program_image.specs.Images.{on_side, as_row};
 ghost use Rattle.st_machine.specs.Plans.{program_in};
 
 use crate::loaded::Loaded;
+use known_sends::KnownSend;
 use object_heap::Value;
 use program_image::{Found, Side};
 use st_messages::ProgramFacts;
@@ -51,6 +52,24 @@ impl Loaded {
         ensures { option_map as_row result ≡ lookup (program_in self.now) (level (on_side side) class) selector }
     {
         self.coded_found(self.image().lookup(side, class, selector))
+    }
+
+    /// What a lookup from a class on a side finds, which is kept for the next time.
+    pub fn recall(&mut self, side: Side, class: u32, selector: u32) -> Option<Found>
+        ensures same { self.new ≡ self.old }
+        ensures found { option_map as_row result ≡ lookup (program_in self.old) (level (on_side side) class) selector }
+    {
+        if let Some(found) = self.known(side, class, selector) {
+            return Some(found);
+        }
+        let found = self.found(side, class, selector)?;
+        self.keep(KnownSend {
+            side,
+            class,
+            selector,
+            found,
+        });
+        Some(found)
     }
 
     // What the classes above a class have for its instances.

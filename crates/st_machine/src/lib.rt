@@ -18,7 +18,6 @@ mod running;
 mod scopes;
 mod searches;
 mod sending;
-mod sends;
 mod settling;
 mod signals;
 mod work;

@@ -8,11 +8,11 @@ ghost use Rattle.st_code.specs.Program.{body_at};
 ghost use Rattle.st_code.specs.Lookup.{level, lookup};
 ghost use Rattle.program_image.specs.Finding.{unit_codes};
 ghost use Rattle.program_image.specs.Images.{on_side, as_row};
-ghost use Rattle.st_machine.specs.KnownSends.{IsKnown};
+ghost use Rattle.known_sends.specs.KnownSends.{IsKnown};
 ghost use Rattle.st_machine.specs.Plans.{plan_of, program_in, are_short, IsSmall};
 ghost use Rattle.st_machine.specs.Signals.{text_in, slots_in};
 
-use crate::sends::{KnownSend, SENDS, place_of, send_at};
+use known_sends::{KnownSend, SENDS, place_of, send_at};
 use object_heap::{Trouble, Value};
 use program_image::{Found, Image, Side};
 use st_base::{Limits, OutOfMemory};
@@ -40,7 +40,7 @@ impl Model for Loaded {
     ghost Value = { Plan };
 
     ghost use Rattle.st_machine.specs.Plans.{plan_of, program_in, IsSmall};
-    ghost use Rattle.st_machine.specs.KnownSends.{AreKnown};
+    ghost use Rattle.known_sends.specs.KnownSends.{AreKnown};
 
     ghost view = { λ l. plan_of l.program l.limits };
 

@@ -6,7 +6,6 @@ ghost use Rattle.st_code.specs.Lookup as code;
 ghost use Rattle.st_machine.specs.Plans.{program_in};
 
 use crate::loaded::Loaded;
-use crate::sends::KnownSend;
 use object_heap::{Heap, Value};
 use signal_env::{fits, is_plain, selector_number};
 

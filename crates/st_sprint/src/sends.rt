@@ -24,7 +24,7 @@ use object_heap::{Heap, Value};
 use program_image::{Found, Side};
 use st_contexts::Env;
 use st_machine::{Machine, Work};
-use st_messages::{MessageRow, OfNumber, Passed, ProgramFacts, row_of};
+use st_messages::{MessageRow, OfNumber, Passed, row_of};
 use st_numbers::NumberMessage;
 
 const UNDEFINED_OBJECT: u32 = 1;
@@ -82,18 +82,21 @@ fn level_for<H: Heap>(machine: &Machine<H>, receiver: Value) -> Level
     }
 }
 
-// What a lookup from there finds.
-fn found_from<H: Heap>(machine: &Machine<H>, from: Level, selector: u32) -> Option<Found>
-    ensures { option_map as_row result ≡ lookup (program_in machine.now.plan) (level (on_side from.side) from.class) selector }
+// What a lookup from there finds, which is kept for the next time.
+fn found_from<H: Heap>(machine: &mut Machine<H>, from: Level, selector: u32) -> Option<Found>
+    ensures same { machine.new ≡ machine.old }
+    ensures found { option_map as_row result ≡ lookup (program_in machine.old.plan) (level (on_side from.side) from.class) selector }
 {
-    machine.loaded.find(from.side, from.class, selector)
+    machine.loaded.recall(from.side, from.class, selector)
 }
 
 // What a receiver finds for a selector.
-fn found_for<H: Heap>(machine: &Machine<H>, selector: u32, receiver: Value) -> Option<Found>
-    ensures { IfSome result (λ found. Finds (as_row found) selector receiver machine.now) }
+fn found_for<H: Heap>(machine: &mut Machine<H>, selector: u32, receiver: Value) -> Option<Found>
+    ensures same { machine.new ≡ machine.old }
+    ensures found { IfSome result (λ found. Finds (as_row found) selector receiver machine.new) }
 {
-    found_from(machine, level_for(machine, receiver), selector)
+    let from = level_for(machine, receiver);
+    found_from(machine, from, selector)
 }
 
 /// A send that is begun.

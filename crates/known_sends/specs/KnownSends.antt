@@ -4,7 +4,7 @@ use Rattle.std.specs.Prelude.{◌≡◌, List, IfSome, Option, Some}
 use Rattle.st_code.specs.Lookup.{level, lookup}
 use Rattle.st_code.specs.Program.{Program}
 use Rattle.program_image.specs.Images.{on_side, as_row}
-use Rattle.st_machine.specs.declared.sends.KnownSend.{KnownSend}
+use Rattle.known_sends.specs.declared.sends.KnownSend.{KnownSend}
 
 -- it found what a lookup finds
 pub record IsKnown (p : Program) (k : KnownSend) : Type 0 where
