@@ -1,5 +1,5 @@
 -- Names among those that are used.
-use Rattle.std.proofs.Common.{◌≡◌, ℕ, suc, ◌+◌, ◌<◌, ◌≤◌, ◌||◌, ◌++◌, append_assoc, append-nil, Option, Some, Bool, true, false, List, [], ◌∷◌, map, drop, length, get_or, refl, ap, sym, ◌∙◌, arith, if◌then◌else◌}
+use Rattle.std.proofs.Common.{◌≡◌, ℕ, suc, ◌+◌, ◌<◌, ◌≤◌, ◌||◌, ◌++◌, append_assoc, append-nil, Option, Some, Bool, true, false, List, [], ◌∷◌, map, drop, length, get_or, Result, IfOk, refl, ap, sym, subst, ◌∙◌, arith, if◌then◌else◌}
 use Rattle.std.proofs.Math.Seq.{drop-cons}
 use Rattle.std.specs.Borrow.{Bor}
 use Rattle.std.specs.Option.{is_some}
@@ -121,12 +121,14 @@ pub map-same : {X Y : Type 0} (f g : X → Y) (xs : List X) → ((x : X) → f x
 map-same f g [] same = refl
 map-same f g (x ∷ xs) same = ap (λ y. y ∷ map f xs) (same x) ∙ ap (λ ys. g x ∷ ys) (map-same f g xs same)
 
-pub marked : (set names us vs : List Text) (m0 m1 m2 : List Bool) → ((t : Text) → has_text set t ≡ has_text names t) → m0 ≡ [] → m1 ≡ m0 ++ map (has_text set) us → m2 ≡ m1 ++ map (has_text set) vs → m2 ≡ map (has_text names) (us ++ vs)
-marked set names us vs m0 m1 m2 same none first second =
+pub marked : (set us vs : List Text) (m0 m1 m2 : List Bool) → m0 ≡ [] → m1 ≡ m0 ++ map (has_text set) us → m2 ≡ m1 ++ map (has_text set) vs → m2 ≡ map (has_text set) (us ++ vs)
+marked set us vs m0 m1 m2 none first second =
     second
     ∙ ap (λ m. m ++ map (has_text set) vs) (first ∙ ap (λ m. m ++ map (has_text set) us) none)
     ∙ sym (map-append (has_text set) us vs)
-    ∙ map-same (has_text set) (has_text names) (us ++ vs) same
+
+pub marked-alike : {E : Type 0} (r : Result (List Bool) E) (set names us : List Text) → ((t : Text) → has_text set t ≡ has_text names t) → IfOk r (λ m. m ≡ map (has_text set) us) → IfOk r (λ m. m ≡ map (has_text names) us)
+marked-alike r set names us same holds = subst (λ (ms : List Bool). IfOk r (λ m. m ≡ ms)) (map-same (has_text set) (has_text names) us same) holds
 
 -- ---- sets of references to names
 

@@ -1,5 +1,5 @@
 -- The parts of a walk, one behind the other.
-use Rattle.std.proofs.Common.{◌≡◌, ℕ, ◌+◌, ◌-◌, ◌<◌, ◌≤◌, Bool, false, not, ◌&&◌, List, [], ◌∷◌, ◌++◌, map, drop, length, get_or, Option, Some, Result, OnOk, ap, sym, ◌∙◌, subst, arith}
+use Rattle.std.proofs.Common.{◌≡◌, ℕ, ◌+◌, ◌-◌, ◌<◌, ◌≤◌, Bool, false, not, ◌&&◌, List, [], ◌∷◌, ◌++◌, map, drop, length, get_or, Option, Some, Result, IfOk, OnOk, refl, ap, sym, ◌∙◌, subst, arith}
 use Rattle.std.specs.Prelude.{◌==◌}
 use Rattle.std.proofs.lemmas.List.{drop_all, length-map}
 use Rattle.std.proofs.Common.{length-drop}
@@ -172,6 +172,38 @@ body-end kind x outer parameters temporaries b code header around d d2 d3 are nu
     ∙ ap (λ (n : NamedBody). body_ended (length d.bodies) (header_of kind x outer (length ps)) (ps ++ n.temporaries) around d2) (sym (body-out b))
     ∙ ap (λ f. body_ended (length d.bodies) (header_of kind x outer (length ps)) (ps ++ (named_body b).temporaries) f d2) frame
     ∙ ap (λ e. body_ended (length d.bodies) (header_of kind x outer (length ps)) (ps ++ (named_body b).temporaries) d.frame e) walked
+
+-- a body from its begin to its end, where the walk of its statements is known
+
+pub within-named : {E : Type 0} (r : Result (List Text) E) (scope : List Text) (d2 whole : Draft) → d2 ≡ whole → IfOk r (λ m. m ≡ without d2.frame.all scope) → IfOk r (λ m. m ≡ without whole.frame.all scope)
+within-named r scope d2 whole is holds = subst (λ (e : Draft). IfOk r (λ m. m ≡ without e.frame.all scope)) is holds
+
+pub within-made : {R E : Type 0} (r : Result R E) (n code : ℕ) (header : Header) (variables : List Text) (frame around : Frame) (d2 whole d3 : Draft) → n ≡ code → frame ≡ around → d2 ≡ whole
+    → OnOk r (d3 ≡ body_ended n header variables frame d2) → OnOk r (d3 ≡ body_ended code header variables around whole)
+within-made r n code header variables frame around d2 whole d3 number kept is holds =
+    then-is r d3 (body_ended n header variables frame d2) (body_ended code header variables around whole) holds
+    (ap (λ m. body_ended m header variables frame d2) number ∙ ap (λ f. body_ended code header variables f d2) kept ∙ ap (body_ended code header variables around) is)
+
+pub body-named : {E : Type 0} (r : Result (List Text) E) (kind : CodeKind) (x within : Context) (outer : Option ℕ) (parameters temporaries : List Name) (statements : List Statement) (b : Body) (code : ℕ) (header : Header) (scope : List Text) (d : Draft)
+    → temporaries ≡ (out-Body b).temporaries → statements ≡ (out-Body b).statements → code ≡ length d.bodies → within ≡ inside x code (variables_of parameters temporaries) → header ≡ header_of kind x outer (length parameters)
+    → scope ≡ variables_of parameters temporaries → IfOk r (λ m. m ≡ without (statements_walked within kind status.Empty (named_statements statements) (body_begun header d)).frame.all scope)
+    → IfOk r (λ m. m ≡ body_names kind x outer (map name_text parameters) (named_body b).temporaries (named_body b).statements d)
+body-named r kind x within outer parameters temporaries statements b code header scope d are too number place head scoped holds =
+    let walked : Draft = statements_walked within kind status.Empty (named_statements statements) (body_begun header d) in
+    let is = body-start kind x within outer parameters temporaries statements b code header d (body_begun header d) walked are too number place head refl refl in
+    let same = body-names kind x outer parameters temporaries b d walked (without walked.frame.all scope) are is (ap (without walked.frame.all) scoped) in
+    subst (λ (ts : List Text). IfOk r (λ m. m ≡ ts)) same holds
+
+pub body-made : {R E : Type 0} (r : Result R E) (kind : CodeKind) (x within : Context) (outer : Option ℕ) (parameters temporaries : List Name) (statements : List Statement) (b : Body) (code : ℕ) (header : Header) (d d3 : Draft)
+    → temporaries ≡ (out-Body b).temporaries → statements ≡ (out-Body b).statements → code ≡ length d.bodies → within ≡ inside x code (variables_of parameters temporaries) → header ≡ header_of kind x outer (length parameters)
+    → OnOk r (d3 ≡ body_ended within.code header (variables_of parameters temporaries) d.frame (statements_walked within kind status.Empty (named_statements statements) (body_begun header d)))
+    → OnOk r (d3 ≡ body_made_of kind x outer (map name_text parameters) (named_body b).temporaries (named_body b).statements d)
+body-made r kind x within outer parameters temporaries statements b code header d d3 are too number place head holds =
+    let walked : Draft = statements_walked within kind status.Empty (named_statements statements) (body_begun header d) in
+    let is = body-start kind x within outer parameters temporaries statements b code header d (body_begun header d) walked are too number place head refl refl in
+    let ended : Draft = body_ended within.code header (variables_of parameters temporaries) d.frame walked in
+    let whole = body-end kind x outer parameters temporaries b within.code header d.frame d walked ended are (ap (λ (y : Context). y.code) place ∙ number) head refl is refl in
+    then-is r d3 ended (body_made_of kind x outer (map name_text parameters) (named_body b).temporaries (named_body b).statements d) holds whole
 
 pub block-whole : {R E : Type 0} (r : Result R E) (x : Context) (b : Block) (parameters : List Name) (outer : ℕ) (code : ℕ) (names : List Text) (d d1 d2 : Draft)
     → parameters ≡ (out-Block b).parameters → outer ≡ x.code → code ≡ length d.bodies

@@ -1,5 +1,5 @@
 // Where a tree stands, and what names mean there.
-ghost use Rattle.std.specs.Prelude.{◌≡◌, suc, IfOk};
+ghost use Rattle.std.specs.Prelude.{◌≡◌, [], ◌∷◌, ◌++◌, suc, IfOk, OnOk};
 ghost use Rattle.std.specs.Option.{option_map};
 ghost use Rattle.st_code.specs.Program.{OfInstance, OfClass};
 ghost use Rattle.st_code.specs.Resolved.{meant_outside, named, number_or_last, class_of_context, inside, own_names, in_pools, in_classes, meant_shared, place_in, class_names_at, or_meant, or_transcript};
@@ -161,6 +161,38 @@ fn meaning_beyond(lookups: &Lookups<'_>, class: u32, text: &[u8]) -> Meaning
     }
 }
 
+// Puts a scope behind those that are there.
+fn share<'a>(scopes: &mut Vec<Scope<'a>>, scope: &Scope<'a>) -> Result<(), OutOfMemory>
+    ensures { OnOk result (scopes.new.items ≡ scopes.old.items ++ scope.now ∷ []) }
+{
+    scopes.push(scope.share()?)?;
+    Ok(())
+}
+
+// Puts scopes behind those that are there.
+fn share_all<'a>(scopes: &mut Vec<Scope<'a>>, outer: &[Scope<'a>]) -> Result<(), OutOfMemory>
+    ensures { OnOk result (scopes.new.items ≡ scopes.old.items ++ outer.now) }
+{
+    for scope in outer {
+        share(scopes, scope)?;
+    }
+    Ok(())
+}
+
+// A scope, and those around it.
+fn scopes_from<'a>(
+    alloc: Global,
+    scope: &Scope<'a>,
+    outer: &[Scope<'a>],
+) -> Result<Vec<Scope<'a>>, OutOfMemory>
+    ensures { IfOk result (λ scopes. scopes.items ≡ scope.now ∷ outer.now) }
+{
+    let mut scopes = Vec::new(alloc);
+    share(&mut scopes, scope)?;
+    share_all(&mut scopes, outer)?;
+    Ok(scopes)
+}
+
 impl<'a, 'l> Around<'a, 'l> {
     /// Outside of all bodies of this class and side.
     pub(crate) fn outside(
@@ -186,21 +218,16 @@ impl<'a, 'l> Around<'a, 'l> {
         &self,
         alloc: Global,
         code: u32,
-        scope: Scope<'a>,
+        scope: &Scope<'a>,
     ) -> Result<Around<'a, 'l>, OutOfMemory>
-        ensures { IfOk result (λ x. x ≡ inside self.now code scope.entry) }
+        ensures { IfOk result (λ x. x ≡ inside self.now code scope.now) }
     {
-        let mut scopes = Vec::new(alloc);
-        scopes.push(scope)?;
-        for outer in self.scopes.as_slice() {
-            scopes.push(outer.share()?)?;
-        }
         Ok(Around {
             lookups: self.lookups,
             class: self.class,
             side: self.side,
             code,
-            scopes,
+            scopes: scopes_from(alloc, scope, self.scopes.as_slice())?,
         })
     }
 

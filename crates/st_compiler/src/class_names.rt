@@ -1,5 +1,5 @@
 // The names of a class's variables, found by their bytes.
-ghost use Rattle.std.specs.Prelude.{◌≡◌, ◌∷◌, [], IfOk, OnOk};
+ghost use Rattle.std.specs.Prelude.{◌≡◌, ◌∷◌, [], ◌++◌, IfOk, OnOk};
 ghost use Rattle.st_code.specs.Resolved.{text_in};
 ghost use Rattle.st_compiler.specs.Bytes.{GainsPlaces, HasPlaces};
 
@@ -44,13 +44,24 @@ fn note<'a>(
     Ok(())
 }
 
+// The same by its index.
+fn note_at<'a>(
+    places: &mut IndexMap<&'a [u8], u32>,
+    name: &'a [u8],
+    index: usize,
+) -> Result<(), OutOfMemory>
+    ensures { OnOk result (GainsPlaces places.old (name.now ∷ []) index places.new) }
+{
+    note(places, name, narrow(index)?)
+}
+
 // The first place of each of these names.
 fn places_of<'a>(alloc: Global, texts: &'a [Text]) -> Result<IndexMap<&'a [u8], u32>, OutOfMemory>
     ensures { IfOk result (HasPlaces texts.now) }
 {
     let mut places = IndexMap::new(alloc);
     for (index, text) in texts.iter().enumerate() {
-        note(&mut places, text.as_bytes(), narrow(index)?)?;
+        note_at(&mut places, text.as_bytes(), index)?;
     }
     Ok(places)
 }
@@ -125,6 +136,18 @@ impl<'a> ClassNames<'a> {
     }
 }
 
+// Adds a class behind the others.
+fn add_class<'a>(
+    all: &mut Items<ClassNames<'a>>,
+    alloc: Global,
+    class: &'a Class,
+) -> Result<(), OutOfMemory>
+    ensures { OnOk result (all.new ≡ all.old ++ class.now ∷ []) }
+{
+    all.push(ClassNames::new(alloc, class)?)?;
+    Ok(())
+}
+
 /// Each class with the places of its variables.
 pub(crate) fn class_names_of<'a>(
     alloc: Global,
@@ -134,7 +157,7 @@ pub(crate) fn class_names_of<'a>(
 {
     let mut all = Items::new(alloc);
     for class in classes {
-        all.push(ClassNames::new(alloc, class)?)?;
+        add_class(&mut all, alloc, class)?;
     }
     Ok(all)
 }

@@ -1,7 +1,7 @@
 // The code of a program while it is made: bodies by number, and the one that is being walked.
 ghost use Rattle.std.specs.Prelude.{◌≡◌, ◌≤◌, [], ◌∷◌, ◌++◌, length, map, slice_set, IfOk, OnOk};
 ghost use Rattle.st_code.specs.Written.{name_text};
-ghost use Rattle.st_code.specs.Resolved.{place_of};
+ghost use Rattle.st_code.specs.Resolved.{place_of, without};
 ghost use Rattle.st_compiler.specs.Around.{variables_of};
 ghost use Rattle.st_compiler.specs.Steps.{seen_place, seen_meaning, seen_step};
 ghost use Rattle.st_compiler.specs.Befores.{one_if, befores, count_captured};
@@ -10,6 +10,7 @@ ghost use Rattle.st_code.specs.Code.{return_of, empty_code, end_code};
 
 use crate::around::Around;
 use crate::names::Mentions;
+use crate::scope::Scope;
 use crate::step::{Meaning, Place, Step, Steps};
 use object_heap::Value;
 use sqlite_items::Items;
@@ -286,8 +287,8 @@ impl<'a> Draft<'a> {
         Ok(mem::replace(&mut self.frame, Frame::new(self.alloc)))
     }
 
-    /// Ends a body, and goes on with the one around it.
-    pub(crate) fn end(
+    // Ends a body, and goes on with the one around it.
+    fn end(
         &mut self,
         code: u32,
         header: Header,
@@ -308,6 +309,24 @@ impl<'a> Draft<'a> {
         };
         put_body(&mut self.bodies, code, body);
         Ok(())
+    }
+
+    /// Ends a body, and gives the names that its scope doesn't declare.
+    pub(crate) fn finish(
+        &mut self,
+        scope: &Scope<'a>,
+        code: u32,
+        header: Header,
+        parameters: &[Name],
+        temporaries: &[Name],
+        around: Frame<'a>,
+    ) -> Result<Mentions<'a>, OutOfMemory>
+        ensures names { IfOk result (λ m. m ≡ without self.old.frame.all scope.now) }
+        ensures ended { OnOk result (self.new ≡ body_ended code header (variables_of parameters.now temporaries.now) around.entry self.old) }
+    {
+        let names = self.frame.all.without(self.alloc, scope)?;
+        self.end(code, header, parameters, temporaries, around)?;
+        Ok(names)
     }
 
     /// A block of this code, which names these.

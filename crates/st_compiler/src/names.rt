@@ -67,6 +67,21 @@ impl<'a> NameSet<'a> {
         }
         Ok(())
     }
+
+    // Of each of these variables, whether its name is in the set.
+    fn marks(
+        &self,
+        alloc: Global,
+        parameters: &[Name],
+        temporaries: &[Name],
+    ) -> Result<Items<bool>, OutOfMemory>
+        ensures { IfOk result (λ marks. marks ≡ map (has_text self.now) (variables_of parameters.now temporaries.now)) }
+    {
+        let mut marks = Items::new(alloc);
+        self.mark_all(&mut marks, parameters)?;
+        self.mark_all(&mut marks, temporaries)?;
+        Ok(marks)
+    }
 }
 
 /// Names that are used, in the order of the text.
@@ -162,9 +177,6 @@ impl<'a> Mentions<'a> {
         ensures { IfOk result (λ marks. marks ≡ map (has_text self.now) (variables_of parameters.now temporaries.now)) }
     {
         let set = self.set(alloc)?;
-        let mut marks = Items::new(alloc);
-        set.mark_all(&mut marks, parameters)?;
-        set.mark_all(&mut marks, temporaries)?;
-        Ok(marks)
+        set.marks(alloc, parameters, temporaries)
     }
 }

@@ -59,8 +59,22 @@ impl<'a> Draft<'a> {
     {
         let code = narrow(self.bodies.len())?;
         let around = Around::outside(self.alloc, lookups, class, side, code);
-        self.body(&around, kind, None, parameters, body)?;
+        self.outermost(&around, kind, parameters, body)?;
         Ok(code)
+    }
+
+    // A body that no other is around.
+    fn outermost(
+        &mut self,
+        around: &Around<'a, '_>,
+        kind: CodeKind,
+        parameters: &'a [Name],
+        body: &'a Body,
+    ) -> Result<(), OutOfMemory>
+        ensures { OnOk result (self.new ≡ body_made_of kind around.now None (map name_text parameters.now) (named_body body.now).temporaries (named_body body.now).statements self.old) }
+    {
+        self.body(around, kind, None, parameters, body)?;
+        Ok(())
     }
 }
 

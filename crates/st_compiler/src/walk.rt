@@ -1,8 +1,9 @@
 // The walk over the tree of a body, which makes its code (ANSI NCITS 319, 3.4).
 ghost use Rattle.std.specs.Prelude.{◌≡◌, ◌==◌, ◌&&◌, not, map, IfOk, OnOk};
-ghost use Rattle.st_code.specs.Resolved.{literal_made, is_one_sent};
+ghost use Rattle.st_code.specs.Resolved.{literal_made, is_one_sent, without};
 ghost use Rattle.st_code.specs.Compiled.{constant_value};
 ghost use Rattle.st_code.specs.Written.{named_literal, name_text, named_primary, named_statement, named_block, named_body, named_expr, named_message, named_operand, named_messages, named_statements};
+ghost use Rattle.st_compiler.specs.Around.{variables_of};
 ghost use Rattle.st_compiler.specs.Walked as walked;
 
 use crate::around::Around;
@@ -175,18 +176,34 @@ impl<'a> Draft<'a> {
         let code = narrow(self.bodies.len())?;
         let temporaries = body.temporaries.as_slice();
         let scope = Scope::new(self.alloc, parameters, temporaries)?;
-        let within = around.inside(self.alloc, code, scope.share()?)?;
+        let within = around.inside(self.alloc, code, &scope)?;
         let header = Header {
             kind,
             class: around.class(),
             parameters: parameters.len(),
             outer,
         };
+        let statements = body.statements.as_slice();
+        self.body_within(&within, &scope, header, parameters, temporaries, statements)
+    }
+
+    // A body from its begin to its end, where its scope is the innermost. The names are the same.
+    #[cycle(walk)]
+    fn body_within(
+        &mut self,
+        within: &Around<'a, '_>,
+        scope: &Scope<'a>,
+        header: Header,
+        parameters: &[Name],
+        temporaries: &[Name],
+        statements: &'a [Statement],
+    ) -> Result<Mentions<'a>, OutOfMemory>
+        ensures names { IfOk result (λ m. m ≡ without (walked.statements_walked within.now header.kind Status.Empty (named_statements statements.now) (walked.body_begun header self.old)).frame.all scope.now) }
+        ensures made { OnOk result (self.new ≡ walked.body_ended within.now.code header (variables_of parameters.now temporaries.now) self.old.frame (walked.statements_walked within.now header.kind Status.Empty (named_statements statements.now) (walked.body_begun header self.old))) }
+    {
         let frame = self.begin(header)?;
-        self.statements(&within, kind, body.statements.as_slice())?;
-        let names = self.frame.all.without(self.alloc, &scope)?;
-        self.end(code, header, parameters, temporaries, frame)?;
-        Ok(names)
+        self.statements(within, header.kind, statements)?;
+        self.finish(scope, within.code(), header, parameters, temporaries, frame)
     }
 
     #[cycle(walk)]

@@ -2,11 +2,12 @@ use Rattle.std.proofs.Common.{◌∙◌, ◌-◌, List, length, true, false, ap,
 use Rattle.object_heap.specs.declared.value.Value.{Value}
 use Rattle.st_code.specs.Texts.{Text}
 use Rattle.st_code.specs.Written.{named_expr, named_statement, named_messages, named_operands, named_statements}
-use Rattle.st_code.specs.Resolved.{inside, number_or_last, without}
+use Rattle.st_code.specs.Resolved.{inside, number_or_last}
 use Rattle.st_code.proofs.Written.{primary-variable, primary-self, primary-super, primary-literal, primary-block, primary-paren, statement-value, statement-return}
 use Rattle.st_compiler.specs.declared.draft.Status.TheVariants as status
-use Rattle.st_compiler.specs.Walked.{chain_walked, cascade_walked, operands_walked, statements_walked}
-use Rattle.st_compiler.proofs.Walks.{chain-next, chain-end, cascade-next, cascade-end, operands-next, message-whole, operand-whole, expr-whole, statement-whole, statements-next, statements-whole, body-start, body-names, body-end, block-whole}
+use Rattle.st_compiler.specs.Around.{variables_of}
+use Rattle.st_compiler.specs.Walked.{chain_walked, cascade_walked, operands_walked, statements_walked, body_begun}
+use Rattle.st_compiler.proofs.Walks.{chain-next, chain-end, cascade-next, cascade-end, operands-next, message-whole, operand-whole, expr-whole, statement-whole, statements-next, statements-whole, body-named, body-made, within-named, within-made, block-whole}
 use Rattle.st_compiler.proofs.draft.Draft.+walk.Goals as goal
 
 pub primary-returns-in-Variable : goal.primary-returns-in-Variable
@@ -34,25 +35,28 @@ block-returns t c =
 
 pub body-returns-clause-names : goal.body-returns-clause-names
 body-returns-clause-names t c =
-    body-names c.args.kind c.args.around.now c.args.outer c.args.parameters.now c.as_slice-temporaries.result.now c.args.body.now c.args.self.now c.statements.new.self c.in_ok-names.names
-    c.as_slice-temporaries.ensures
-    (body-start c.args.kind c.args.around.now c.in_ok-within.within c.args.outer c.args.parameters.now c.as_slice-temporaries.result.now c.as_slice.result.now c.args.body.now c.in_ok-code.code
-    (record { kind = c.args.kind; class = c.class.result; parameters = length c.args.parameters.now; outer = c.args.outer }) c.args.self.now c.begin.new.self c.statements.new.self
-    c.as_slice-temporaries.ensures c.as_slice.ensures (c.in_ok-code.ensures ∙ c.len.ensures) (c.in_ok-within.ensures ∙ ap (inside c.args.around.now c.in_ok-code.code) (c.in_ok-share.ensures ∙ c.in_ok-scope.ensures))
-    (ap (λ (v : Value). record { kind = c.args.kind; class = v; parameters = length c.args.parameters.now; outer = c.args.outer }) c.class.ensures) c.in_ok-frame.ensures.begun c.in_ok-statements.ensures)
-    (c.in_ok-names.ensures ∙ ap (λ (vs : List Text). without c.statements.new.self.frame.all vs) c.in_ok-scope.ensures)
+    body-named c.body_within.result c.args.kind c.args.around.now c.in_ok-within.within c.args.outer c.args.parameters.now c.as_slice-temporaries.result.now c.as_slice-statements.result.now c.args.body.now c.in_ok-code.code
+    (record { kind = c.args.kind; class = c.class.result; parameters = length c.args.parameters.now; outer = c.args.outer }) c.in_ok-scope.scope c.args.self.now
+    c.as_slice-temporaries.ensures c.as_slice-statements.ensures (c.in_ok-code.ensures ∙ c.len.ensures) (c.in_ok-within.ensures ∙ ap (inside c.args.around.now c.in_ok-code.code) c.in_ok-scope.ensures)
+    (ap (λ (v : Value). record { kind = c.args.kind; class = v; parameters = length c.args.parameters.now; outer = c.args.outer }) c.class.ensures) c.in_ok-scope.ensures c.body_within.ensures.names
 
 pub body-returns-clause-made : goal.body-returns-clause-made
 body-returns-clause-made t c =
-    body-end c.args.kind c.args.around.now c.args.outer c.args.parameters.now c.as_slice-temporaries.result.now c.args.body.now c.in_ok-code.code
-    (record { kind = c.args.kind; class = c.class.result; parameters = length c.args.parameters.now; outer = c.args.outer }) c.in_ok-frame.frame c.args.self.now c.statements.new.self c.end.new.self
-    c.as_slice-temporaries.ensures (c.in_ok-code.ensures ∙ c.len.ensures)
-    (ap (λ (v : Value). record { kind = c.args.kind; class = v; parameters = length c.args.parameters.now; outer = c.args.outer }) c.class.ensures) c.in_ok-frame.ensures.around
-    (body-start c.args.kind c.args.around.now c.in_ok-within.within c.args.outer c.args.parameters.now c.as_slice-temporaries.result.now c.as_slice.result.now c.args.body.now c.in_ok-code.code
-    (record { kind = c.args.kind; class = c.class.result; parameters = length c.args.parameters.now; outer = c.args.outer }) c.args.self.now c.begin.new.self c.statements.new.self
-    c.as_slice-temporaries.ensures c.as_slice.ensures (c.in_ok-code.ensures ∙ c.len.ensures) (c.in_ok-within.ensures ∙ ap (inside c.args.around.now c.in_ok-code.code) (c.in_ok-share.ensures ∙ c.in_ok-scope.ensures))
-    (ap (λ (v : Value). record { kind = c.args.kind; class = v; parameters = length c.args.parameters.now; outer = c.args.outer }) c.class.ensures) c.in_ok-frame.ensures.begun c.in_ok-statements.ensures)
-    c.in_ok-end.ensures
+    body-made c.body_within.result c.args.kind c.args.around.now c.in_ok-within.within c.args.outer c.args.parameters.now c.as_slice-temporaries.result.now c.as_slice-statements.result.now c.args.body.now c.in_ok-code.code
+    (record { kind = c.args.kind; class = c.class.result; parameters = length c.args.parameters.now; outer = c.args.outer }) c.args.self.now c.body_within.new.self
+    c.as_slice-temporaries.ensures c.as_slice-statements.ensures (c.in_ok-code.ensures ∙ c.len.ensures) (c.in_ok-within.ensures ∙ ap (inside c.args.around.now c.in_ok-code.code) c.in_ok-scope.ensures)
+    (ap (λ (v : Value). record { kind = c.args.kind; class = v; parameters = length c.args.parameters.now; outer = c.args.outer }) c.class.ensures) c.body_within.ensures.made
+
+pub body_within-returns-clause-names : goal.body_within-returns-clause-names
+body_within-returns-clause-names t c =
+    within-named c.finish.result c.args.scope.now c.statements.new.self (statements_walked c.args.within.now c.args.header.kind status.Empty (named_statements c.args.statements.now) (body_begun c.args.header c.args.self.now))
+    (c.in_ok-statements.ensures ∙ ap (statements_walked c.args.within.now c.args.header.kind status.Empty (named_statements c.args.statements.now)) c.in_ok-frame.ensures.begun) c.finish.ensures.names
+
+pub body_within-returns-clause-made : goal.body_within-returns-clause-made
+body_within-returns-clause-made t c =
+    within-made c.finish.result c.code.result c.args.within.now.code c.args.header (variables_of c.args.parameters.now c.args.temporaries.now) c.in_ok-frame.frame c.args.self.now.frame c.statements.new.self
+    (statements_walked c.args.within.now c.args.header.kind status.Empty (named_statements c.args.statements.now) (body_begun c.args.header c.args.self.now)) c.finish.new.self
+    c.code.ensures c.in_ok-frame.ensures.around (c.in_ok-statements.ensures ∙ ap (statements_walked c.args.within.now c.args.header.kind status.Empty (named_statements c.args.statements.now)) c.in_ok-frame.ensures.begun) c.finish.ensures.ended
 
 pub expr-returns : goal.expr-returns
 expr-returns t c =

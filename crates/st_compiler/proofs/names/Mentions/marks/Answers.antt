@@ -1,8 +1,6 @@
-use Rattle.std.proofs.Common.{map}
-use Rattle.st_code.specs.Written.{name_text}
-use Rattle.st_compiler.proofs.Mentioned.{marked}
+use Rattle.st_compiler.specs.Around.{variables_of}
+use Rattle.st_compiler.proofs.Mentioned.{marked-alike}
 use Rattle.st_compiler.proofs.names.Mentions.marks.Goals as goal
 
 pub returns : goal.returns
-returns c =
-    marked c.in_ok-set.set c.args.self.now (map name_text c.args.parameters.now) (map name_text c.args.temporaries.now) c.new-marks.result c.mark_all.new.marks c.mark_all-2.new.marks c.in_ok-set.ensures c.new-marks.ensures c.in_ok-mark_all.ensures c.in_ok-mark_all-2.ensures
+returns c = marked-alike c.marks.result c.in_ok-set.set c.args.self.now (variables_of c.args.parameters.now c.args.temporaries.now) c.in_ok-set.ensures c.marks.ensures
