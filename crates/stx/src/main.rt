@@ -3,8 +3,9 @@
 
 mod devices;
 
-use devices::{StdOut, StdReport, StdSource};
+use devices::{StdSink, StdSource};
 use std::process::ExitCode;
+use std::rt::{Stderr, Stdout};
 use std::{env, io};
 
 // The arguments behind the program's name. One that is not UTF-8 makes them no command, as none do.
@@ -17,14 +18,14 @@ fn words(rt: &HostRuntime) -> io::Result<Vec<String>> {
 }
 
 // What is still gathered is written, the output before the report. Where one fails, nothing more is.
-fn finished(out: &mut StdOut, report: &mut StdReport, status: u8) -> u8 {
+fn finished(out: &mut StdSink<Stdout>, report: &mut StdSink<Stderr>, status: u8) -> u8 {
     match out.finish() {
         Ok(()) => reported(report, status),
         Err(_) => 9,
     }
 }
 
-fn reported(report: &mut StdReport, status: u8) -> u8 {
+fn reported(report: &mut StdSink<Stderr>, status: u8) -> u8 {
     match report.finish() {
         Ok(()) => status,
         Err(_) => 9,
@@ -33,8 +34,8 @@ fn reported(report: &mut StdReport, status: u8) -> u8 {
 
 fn main(rt: HostRuntime) -> ExitCode {
     let mut source = StdSource::new(rt.stdin());
-    let mut report = StdReport::new(rt.alloc(), rt.stderr());
-    let status = match (words(&rt), StdOut::new(rt.alloc(), rt.stdout())) {
+    let mut report = StdSink::at_end(rt.alloc(), rt.stderr());
+    let status = match (words(&rt), StdSink::in_blocks(rt.alloc(), rt.stdout())) {
         (Ok(words), Ok(mut out)) => {
             let status = st_run::stx(rt.alloc(), &words, &mut source, &mut out, &mut report);
             finished(&mut out, &mut report, status)
