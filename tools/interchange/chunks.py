@@ -2,16 +2,16 @@
 from __future__ import annotations
 
 from collections.abc import Iterator
-from dataclasses import dataclass
+from typing import NamedTuple
 
 from .places import WHITE, Text
 
 
-@dataclass(frozen=True)
-class Chunk:
+class Chunk(NamedTuple):
     """A text of the file: its number among those that aren't white space alone (from 1), and whether a bang ends it.
 
-    `start` and `end` are offsets in the file, without the bang.
+    `start` and `end` are offsets in the file, without the bang. A `blank` one is white space alone, and has the number of the
+    next one that isn't.
     """
 
     text: Text
@@ -19,11 +19,7 @@ class Chunk:
     start: int
     end: int
     ended: bool
-
-    @property
-    def blank(self) -> bool:
-        """Whether it is white space alone. It has the number of the next one that isn't."""
-        return not self.text.bytes.strip(WHITE)
+    blank: bool
 
 
 def separator(data: bytes, at: int) -> int:
@@ -42,13 +38,18 @@ def chunks(data: bytes) -> Iterator[Chunk]:
     number = 1
     at = 0
     while True:
-        end = separator(data, at)
-        text = Text(data[at:end], at).undoubled(b"!")
-        chunk = Chunk(text, number, at, end, end < len(data))
-        yield chunk
-        if not chunk.ended:
+        end = data.find(b"!", at)
+        if end < 0 or data.startswith(b"!!", end):
+            end = separator(data, at)
+            text = Text(data[at:end], at).undoubled(b"!")
+        else:
+            text = Text(data[at:end], at)
+        blank = not text.bytes.strip(WHITE)
+        ended = end < len(data)
+        yield Chunk(text, number, at, end, ended, blank)
+        if not ended:
             return
-        number += 0 if chunk.blank else 1
+        number += not blank
         at = end + 1
 
 

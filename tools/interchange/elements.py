@@ -8,6 +8,8 @@ from __future__ import annotations
 import re
 from dataclasses import dataclass, field
 from enum import Enum
+from functools import lru_cache
+from typing import NamedTuple
 
 from .bodies import RESERVED, Body, Fault, Method, Parser
 from .chunks import Chunk, chunks
@@ -32,19 +34,22 @@ class UnitKind(Enum):
     CLASS_METHOD = "classMethod"
     COMMENT = "comment"
 
+    # each stands for itself alone, which is quicker to look up than its word
+    __hash__ = object.__hash__
+
 
 METHODS = frozenset((UnitKind.METHOD, UnitKind.CLASS_METHOD))
 INITIALIZERS = frozenset((UnitKind.INITIALIZER, UnitKind.POOL_INITIALIZER, UnitKind.PROGRAM_INITIALIZER))
+WITH_TEXT = METHODS | INITIALIZERS
 
 
-@dataclass(slots=True)
-class Names:
-    """The lists of names in a class element."""
+class Names(NamedTuple):
+    """The names in a class element, those of each list in their order."""
 
-    instance: list[bytes]
-    class_variables: list[bytes]
-    pools: list[bytes]
-    class_instance: list[bytes]
+    instance: tuple[bytes, ...] = ()
+    class_variables: tuple[bytes, ...] = ()
+    pools: tuple[bytes, ...] = ()
+    class_instance: tuple[bytes, ...] = ()
 
 
 @dataclass(slots=True)
@@ -55,13 +60,13 @@ class Unit:
     initializer, the name within `pool`, and the text of a version. `text` is the chunk of its body or method.
     """
 
-    kind: UnitKind
     header: Chunk
+    kind: UnitKind
     name: bytes = b""
     pool: bytes = b""
     superclass: bytes = b""
     indexed: bytes = b"none"
-    names: Names = field(default_factory=lambda: Names([], [], [], []))
+    names: Names = Names()
     annotations: list[tuple[bytes, bytes]] = field(default_factory=list)
     text: Chunk | None = None
     last: Chunk | None = None
@@ -138,7 +143,7 @@ def read(data: bytes, lenient: bool = False) -> File:
             pending = None
             continue
         unit = _element(file, chunk, lenient)
-        pending = unit if unit and unit.kind in METHODS | INITIALIZERS else None
+        pending = unit if unit and unit.kind in WITH_TEXT else None
     if pending is not None:
         _note(file, chunk, 0, "MissingText")
     if not file.units or file.units[0].kind is not UnitKind.VERSION:
@@ -152,43 +157,70 @@ def _note(file: File, chunk: Chunk, at: int, reason: str) -> None:
 
 def _element(file: File, chunk: Chunk, lenient: bool) -> Unit | None:
     """Reads a header, comment or annotation into the file; the unit where it begins one."""
-    header = _Header(chunk, lenient)
-    try:
-        if header.at_annotation():
-            annotation = header.annotation()
-            if not file.units:
-                raise _Wrong(0)
-            file.units[-1].annotations.append(annotation)
+    match said(chunk.text.bytes, lenient):
+        case Heading(kind=UnitKind.VERSION, second=at) if file.units:
+            _note(file, chunk, at, "Syntax")
+        case Heading(kind, name, pool, superclass, indexed, names):
+            unit = Unit(chunk, kind, name, pool, superclass, indexed, names, last=chunk)
+            file.units.append(unit)
+            return unit
+        case Annotation(key, value) if file.units:
+            file.units[-1].annotations.append((key, value))
             file.units[-1].last = chunk
-            return None
-        unit = header.unit()
-        if unit.kind is UnitKind.VERSION and file.units:
-            raise _Wrong(header.tokens[1].start)
-    except _Wrong as wrong:
-        _note(file, chunk, wrong.at, wrong.reason)
-        return None
-    unit.last = chunk
-    file.units.append(unit)
-    return unit
+        case Annotation():
+            _note(file, chunk, 0, "Syntax")
+        case Wrong(at, reason):
+            _note(file, chunk, at, reason)
+    return None
 
 
-class _Wrong(Exception):
-    """A token of a header that can't stand."""
+class Heading(NamedTuple):
+    """What a header declares, wherever it stands, in the words of Unit, and the offset of its second token."""
 
-    def __init__(self, at: int, reason: str = "Syntax") -> None:
-        super().__init__(at, reason)
-        self.at = at
-        self.reason = reason
+    kind: UnitKind
+    name: bytes = b""
+    pool: bytes = b""
+    superclass: bytes = b""
+    indexed: bytes = b"none"
+    names: Names = Names()
+    second: int = 0
+
+
+class Annotation(NamedTuple):
+    """What an annotation says of the unit before it."""
+
+    key: bytes
+    value: bytes
+
+
+class Wrong(NamedTuple):
+    """The offset of a token that can't stand, and the reason as `stx` names it."""
+
+    at: int
+    reason: str
+
+
+@lru_cache(maxsize=65536)
+def said(text: bytes, lenient: bool) -> Heading | Annotation | Wrong:
+    """What the text of a header, annotation or comment says. Texts are kept, since a file is read at each change of it."""
+    header = _Header(text, lenient)
+    try:
+        return header.annotation() if header.at_annotation() else header.heading()
+    except _Stopped as stopped:
+        return Wrong(*stopped.args)
+
+
+class _Stopped(Exception):
+    """A token of a header can't stand: its offset, and the reason."""
 
 
 class _Header:
     """Reads the tokens of one header."""
 
-    def __init__(self, chunk: Chunk, lenient: bool) -> None:
-        self.chunk = chunk
+    def __init__(self, text: bytes, lenient: bool) -> None:
         self.lenient = lenient
-        self.tokens = tokens_of(chunk.text.bytes).tokens
-        self.tokens.append(Token(Kind.END, len(chunk.text.bytes), len(chunk.text.bytes), b""))
+        self.tokens = tokens_of(text).tokens
+        self.tokens.append(Token(Kind.END, len(text), len(text), b""))
         self.index = 0
 
     def peek(self) -> Token:
@@ -196,7 +228,7 @@ class _Header:
 
     def fail(self) -> None:
         token = self.peek()
-        raise _Wrong(token.start, str(token.value) if token.kind is Kind.FAULT else "Syntax")
+        raise _Stopped(token.start, str(token.value) if token.kind is Kind.FAULT else "Syntax")
 
     def take(self, kind: Kind) -> Token:
         token = self.peek()
@@ -219,37 +251,38 @@ class _Header:
     def trimmed(self, text: bytes) -> bytes:
         return text.strip(WHITE) if self.lenient else text
 
-    def names(self) -> list[bytes]:
+    def names(self) -> tuple[bytes, ...]:
         token = self.peek()
         if token.kind is not Kind.STRING:
             self.fail()
         text = self.trimmed(token.value)
-        names = _GAPS.split(text) if text.strip(WHITE) else []
+        names = tuple(_GAPS.split(text)) if text.strip(WHITE) else ()
         if not all(map(is_name, names)) or (text and not names):
             self.fail()
-        return (self.take(Kind.STRING), names)[1]
+        self.take(Kind.STRING)
+        return names
 
     def at_annotation(self) -> bool:
         return [token.text for token in self.tokens[:2]] == [b"Annotation", b"key:"]
 
-    def annotation(self) -> tuple[bytes, bytes]:
+    def annotation(self) -> Annotation:
         self.index = 2
         key = self.take(Kind.STRING).value
         self.word(b"value:")
         value = self.take(Kind.STRING).value
         self.take(Kind.END)
-        return key, value
+        return Annotation(key, value)
 
-    def unit(self) -> Unit:
-        """The unit that the whole header is."""
+    def heading(self) -> Heading:
+        """What the whole header declares."""
         if self.peek().kind is Kind.END:
-            return Unit(UnitKind.COMMENT, self.chunk)
-        unit = self.declared(self.take(Kind.IDENTIFIER).text)
+            return Heading(UnitKind.COMMENT)
+        heading = self.declared(self.take(Kind.IDENTIFIER).text)
         self.take(Kind.END)
-        return unit
+        return heading
 
-    def declared(self, first: bytes) -> Unit:
-        """The unit, behind its first word."""
+    def declared(self, first: bytes) -> Heading:
+        """What is declared, behind the first word."""
         second = self.peek()
         words = {b"initializer": UnitKind.INITIALIZER, b"method": UnitKind.METHOD,
                  b"classMethod": UnitKind.CLASS_METHOD}
@@ -257,42 +290,42 @@ class _Header:
             self.index += 1
             kind = words[second.text]
             if kind is UnitKind.INITIALIZER and first == b"Global":
-                return Unit(UnitKind.PROGRAM_INITIALIZER, self.chunk)
-            return Unit(kind, self.chunk, first)
+                return Heading(UnitKind.PROGRAM_INITIALIZER)
+            return Heading(kind, first)
         if second.kind is not Kind.KEYWORD:
             self.fail()
         self.index += 1
         return self.keyed(first, second.text)
 
-    def keyed(self, first: bytes, word: bytes) -> Unit:
-        """The unit, behind its first word and a keyword."""
+    def keyed(self, first: bytes, word: bytes) -> Heading:
+        """What is declared, behind the first word and a keyword."""
         variables = {b"variable:": (UnitKind.GLOBAL_VARIABLE, UnitKind.POOL_VARIABLE),
                      b"constant:": (UnitKind.GLOBAL_CONSTANT, UnitKind.POOL_CONSTANT)}
         if word in variables:
             of_global, of_pool = variables[word]
             if first == b"Global":
-                return Unit(of_global, self.chunk, self.name())
-            return Unit(of_pool, self.chunk, self.name(), pool=first)
+                return Heading(of_global, self.name())
+            return Heading(of_pool, self.name(), first)
         if word == b"initializerFor:":
-            return Unit(UnitKind.POOL_INITIALIZER, self.chunk, self.name(), pool=first)
+            return Heading(UnitKind.POOL_INITIALIZER, self.name(), first)
         if (first, word) == (b"Smalltalk", b"interchangeVersion:"):
-            return Unit(UnitKind.VERSION, self.chunk, self.take(Kind.STRING).value)
+            return Heading(UnitKind.VERSION, self.take(Kind.STRING).value, second=self.tokens[1].start)
         if (first, word) == (b"Pool", b"named:"):
-            return Unit(UnitKind.POOL, self.chunk, self.name())
+            return Heading(UnitKind.POOL, self.name())
         if (first, word) == (b"Class", b"named:"):
-            return self.class_unit()
+            return self.class_heading()
         self.index -= 1
         self.fail()
 
-    def class_unit(self) -> Unit:
-        unit = Unit(UnitKind.CLASS, self.chunk, self.name())
+    def class_heading(self) -> Heading:
+        name = self.name()
         self.word(b"superclass:")
-        unit.superclass = self.name()
+        superclass = self.name()
         self.word(b"indexedInstanceVariables:")
         kinds = (Kind.SYMBOL, Kind.QUOTED_SYMBOL) if self.lenient else (Kind.SYMBOL,)
         if self.peek().kind not in kinds or self.peek().value not in (b"none", b"object", b"byte"):
             self.fail()
-        unit.indexed = self.take(self.peek().kind).value
+        indexed = self.take(self.peek().kind).value
         self.word(b"instanceVariableNames:")
         instance = self.names()
         self.word(b"classVariableNames:")
@@ -300,5 +333,5 @@ class _Header:
         self.word(b"sharedPools:")
         pools = self.names()
         self.word(b"classInstanceVariableNames:")
-        unit.names = Names(instance, class_variables, pools, self.names())
-        return unit
+        names = Names(instance, class_variables, pools, self.names())
+        return Heading(UnitKind.CLASS, name, superclass=superclass, indexed=indexed, names=names)

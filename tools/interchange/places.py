@@ -3,13 +3,12 @@ from __future__ import annotations
 
 import re
 from bisect import bisect_left, bisect_right
-from dataclasses import dataclass, field
+from typing import NamedTuple
 
 WHITE = b"\t\n\f\r "
 
 
-@dataclass(frozen=True)
-class Text:
+class Text(NamedTuple):
     """A part of a file as it is read, with doubled bangs or quotes taken to one.
 
     `skips` are the offsets in `bytes` of those that stand twice in the file, in order.
@@ -17,7 +16,7 @@ class Text:
 
     bytes: bytes
     start: int = 0
-    skips: tuple[int, ...] = field(default=())
+    skips: tuple[int, ...] = ()
 
     def place(self, offset: int) -> int:
         """The offset in the file of an offset in the text."""

@@ -45,6 +45,9 @@ class Kind(Enum):
     COMPILED_OPEN = "##("
     BANG = "!"
 
+    # each stands for itself alone, which is quicker to look up than its word
+    __hash__ = object.__hash__
+
 
 @dataclass(frozen=True)
 class Dialect:

@@ -2,6 +2,8 @@
 import dataclasses
 import re
 import subprocess
+import tempfile
+from typing import BinaryIO
 
 REFUSED = re.compile(r"stx: refused element (\d+) byte (\d+) (\w+)")
 
@@ -30,20 +32,22 @@ class Program:
     def __init__(self, words: list[str]):
         self.words = words
 
-    def start(self, words: list[str]) -> subprocess.Popen[bytes]:
-        """Starts the program with these words; its input is still to come."""
-        return subprocess.Popen(
-            [*self.words, *words], stdin=subprocess.PIPE, stdout=subprocess.PIPE, stderr=subprocess.PIPE
-        )
+    def start(self, words: list[str], source: BinaryIO) -> subprocess.Popen[bytes]:
+        """Starts the program with these words; it reads from a file."""
+        return subprocess.Popen([*self.words, *words], stdin=source, stdout=subprocess.PIPE, stderr=subprocess.PIPE)
 
     def answer(self, words: list[str], data: bytes, seconds: float | None = None) -> Answer | None:
         """What the program answers to this input, or None where it took longer."""
-        with self.start(words) as run:
-            try:
-                output, report = run.communicate(data, seconds)
-            except subprocess.TimeoutExpired:
-                run.kill()
-                return None
+        # a file, since a pipe would be filled piece by piece, each of which waits for what else runs here
+        with tempfile.TemporaryFile() as source:
+            source.write(data)
+            source.seek(0)
+            with self.start(words, source) as run:
+                try:
+                    output, report = run.communicate(timeout=seconds)
+                except subprocess.TimeoutExpired:
+                    run.kill()
+                    return None
         return Answer(run.returncode, output, report.decode("utf-8", "replace"))
 
     def refusal(self, data: bytes) -> Refusal | None:

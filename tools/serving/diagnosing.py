@@ -1,23 +1,25 @@
 """Diagnostics: a buffer that has rested is checked, and what a newer change made old goes unsaid."""
 import threading
 import time
+from concurrent.futures import Future
 from typing import Any, Callable
 
 from serving.buffers import Buffer
 
 REST = 0.3
 
-Finder = Callable[[Buffer, Callable[[], bool]], list[dict[str, Any]]]
+Found = list[dict[str, Any]]
+Finder = Callable[[Buffer, Callable[[], bool]], Found]
 
 
 class Diagnosing:
     """A thread that looks at each buffer once it has rested.
 
-    `finders` are asked one after the other, the quickest first; each answers diagnostics, and may give up where the function
-    that it is handed says that a newer change came. Behind each of them all that was found so far is said.
+    `finders` are asked side by side; each answers diagnostics, and may give up where the function that it is handed says that
+    a newer change came. What they found is said in their order, behind each of them with all that was found before.
     """
 
-    def __init__(self, say: Callable[[Buffer, list[dict[str, Any]]], None], finders: list[Finder], rest: float = REST):
+    def __init__(self, say: Callable[[Buffer, Found], None], finders: list[Finder], rest: float = REST):
         self.say = say
         self.finders = finders
         self.rest = rest
@@ -65,14 +67,26 @@ class Diagnosing:
                     self.turn.wait(self.waiting[uri][0] - now)
         return None
 
+    def begun(self, finder: Finder, buffer: Buffer) -> Future[Found]:
+        """What a finder answers, which is asked in a thread of its own."""
+        answer: Future[Found] = Future()
+
+        def ask() -> None:
+            try:
+                answer.set_result(finder(buffer, lambda: self.is_old(buffer)))
+            except BaseException as fault:
+                answer.set_exception(fault)
+
+        threading.Thread(target=ask, daemon=True).start()
+        return answer
+
     def look(self, buffer: Buffer) -> None:
         """Finds and says what there is to say of a buffer."""
-        found: list[dict[str, Any]] = []
-        for finder in self.finders:
-            more = finder(buffer, lambda: self.is_old(buffer))
+        found: Found = []
+        for answer in [self.begun(finder, buffer) for finder in self.finders]:
+            found = found + answer.result()
             if self.is_old(buffer):
                 return
-            found = found + more
             self.say(buffer, found)
 
     def run(self) -> None:

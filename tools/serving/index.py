@@ -12,6 +12,7 @@ from interchange.tokens import Kind, Token, tokens_of
 from serving.texts import Analysis, Span, analysis
 
 Key = tuple[object, ...]
+Side = tuple[bytes, bool]
 GLOBALS = {UnitKind.GLOBAL_VARIABLE: "variable", UnitKind.GLOBAL_CONSTANT: "constant"}
 POOLED = {UnitKind.POOL_VARIABLE: "variable", UnitKind.POOL_CONSTANT: "constant"}
 
@@ -43,7 +44,7 @@ class Index:
         self.classes = self.file.classes()
         self.pools: dict[bytes, set[bytes]] = {}
         self.globals: set[bytes] = set()
-        self.seen: dict[tuple[bytes, bool], Names] = {}
+        self.seen: dict[Side, Names] = {}
         for unit in self.units:
             if unit.kind is UnitKind.POOL:
                 self.pools.setdefault(unit.name, set())
@@ -82,9 +83,9 @@ class Index:
 
     def header_names(self, unit: Unit) -> list[tuple[Key, Span, str]]:
         """What the names of a unit's header stand for, where each stands in the header's text, and its role."""
-        tokens = header_tokens(unit.header.text.bytes)
         if unit.kind is UnitKind.CLASS:
-            return class_names(unit, tokens)
+            return class_names(unit.header.text.bytes, unit.name, unit.superclass)
+        tokens = header_tokens(unit.header.text.bytes)
         strings = [token for token in tokens if token.kind is Kind.STRING]
         first = (tokens[0].start, tokens[0].end) if tokens else (0, 0)
         if unit.kind in GLOBALS:
@@ -126,6 +127,11 @@ class Index:
         """What stands in the text of a unit."""
         return analysis(unit.text.text.bytes if unit.text else b"", unit.kind in METHODS)
 
+    @functools.cached_property
+    def texts(self) -> list[tuple[Unit, Chunk, Analysis]]:
+        """Each unit with a text, and what stands in it."""
+        return [(unit, unit.text, self.analysis(unit)) for unit in self.units if unit.text]
+
     def above(self, name: bytes) -> list[bytes]:
         """A class and those above it, from the file and built in."""
         found: list[bytes] = []
@@ -135,19 +141,45 @@ class Index:
             name = unit.superclass if unit else builtins.classes().get(name) or b""
         return found
 
-    def seen_from(self, unit: Unit) -> "Names":
-        """The names that a unit's text sees beyond its own."""
+    def side_of(self, unit: Unit) -> Side:
+        """From which class, and from which side of it, a unit's text sees names."""
         if unit.kind in METHODS:
-            return self.names(unit.name, unit.class_side)
+            return unit.name, unit.class_side
         if unit.kind is UnitKind.INITIALIZER and unit.name in self.classes:
-            return self.names(unit.name, True)
-        return self.names(b"UndefinedObject", False)
+            return unit.name, True
+        return b"UndefinedObject", False
 
-    def names(self, of: bytes, class_side: bool) -> "Names":
+    def seen_from(self, unit: Unit) -> Names:
+        """The names that a unit's text sees beyond its own."""
+        return self.names(self.side_of(unit))
+
+    def names(self, side: Side) -> Names:
         """The names that a side of a class sees."""
-        if (of, class_side) not in self.seen:
-            self.seen[of, class_side] = Names(self, of, class_side)
-        return self.seen[of, class_side]
+        if side not in self.seen:
+            self.seen[side] = Names(self.names_of(*side), self.common)
+        return self.seen[side]
+
+    def names_of(self, name: bytes, class_side: bool) -> dict[bytes, Key]:
+        """Variables of a class and of those above, and of their pools."""
+        kind = "class instance variable" if class_side else "instance variable"
+        found: dict[bytes, Key] = {}
+        units = [self.classes[one] for one in reversed(self.above(name)) if one in self.classes]
+        for unit in units:
+            for pool in reversed(unit.names.pools):
+                found.update((word, ("pool variable", pool, word)) for word in self.pools.get(pool, ()))
+            found.update((word, ("class variable", unit.name, word)) for word in unit.names.class_variables)
+        for unit in units:
+            words = unit.names.class_instance if class_side else unit.names.instance
+            found.update((word, (kind, unit.name, word)) for word in words)
+        return found
+
+    @functools.cached_property
+    def read(self) -> set[Key]:
+        """What is read somewhere by a name that its text doesn't declare."""
+        by_side: dict[Side, set[bytes]] = {}
+        for unit, _, found in self.texts:
+            by_side.setdefault(self.side_of(unit), set()).update(found.read)
+        return {self.names(side).key(name) for side, names in by_side.items() for name in names}
 
     # what is asked
 
@@ -184,47 +216,33 @@ class Index:
         return [one for one in self.by_key.get(selector(name), []) if one.role == "implements"]
 
 
+@dataclass(frozen=True, slots=True)
 class Names:
-    """What names stand for, seen from a side of a class."""
+    """What names stand for, seen from a side of a class: those that can be seen from there alone, and the others."""
 
-    def __init__(self, index: Index, of: bytes, class_side: bool):
-        self.index = index
-        self.classes = index.above(of)
-        self.kind = "class instance variable" if class_side else "instance variable"
-
-    @functools.cached_property
-    def own(self) -> dict[bytes, Key]:
-        """The names that can be seen from here alone: variables of the class and of those above, and of their pools."""
-        found: dict[bytes, Key] = {}
-        units = [self.index.classes[name] for name in reversed(self.classes) if name in self.index.classes]
-        for unit in units:
-            for pool in reversed(unit.names.pools):
-                found.update((word, ("pool variable", pool, word)) for word in self.index.pools.get(pool, ()))
-            found.update((word, ("class variable", unit.name, word)) for word in unit.names.class_variables)
-        for unit in units:
-            words = unit.names.class_instance if self.kind.startswith("class") else unit.names.instance
-            found.update((word, (self.kind, unit.name, word)) for word in words)
-        return found
+    own: dict[bytes, Key]
+    common: dict[bytes, Key]
 
     def key(self, name: bytes) -> Key:
         """What a name stands for; one that nothing declares stands for itself."""
-        return self.own.get(name) or self.index.common.get(name) or ("unknown", name)
+        return self.own.get(name) or self.common.get(name) or ("unknown", name)
 
     @property
     def all(self) -> dict[bytes, Key]:
         """All names that can be seen."""
-        return {**self.index.common, **self.own}
+        return {**self.common, **self.own}
 
 
-def class_names(unit: Unit, tokens: list[Token]) -> list[tuple[Key, Span, str]]:
+@functools.lru_cache(maxsize=65536)
+def class_names(text: bytes, named: bytes, superclass: bytes) -> list[tuple[Key, Span, str]]:
     """What the names of a class element stand for, where each stands, and its role."""
-    name, above, instance, shared, pools, own = [token for token in tokens if token.kind is Kind.STRING]
+    name, above, instance, shared, pools, own = [token for token in header_tokens(text) if token.kind is Kind.STRING]
     found: list[tuple[Key, Span, str]] = [
-        (("class", unit.name), inner(name), "declares"),
-        (("class", unit.superclass), inner(above), "reads"),
+        (("class", named), inner(name), "declares"),
+        (("class", superclass), inner(above), "reads"),
     ]
     for token, kind in ((instance, "instance variable"), (shared, "class variable"), (own, "class instance variable")):
-        found += [((kind, unit.name, word), span, "declares") for word, span in words(token)]
+        found += [((kind, named, word), span, "declares") for word, span in words(token)]
     return found + [(("pool", word), span, "reads") for word, span in words(pools)]
 
 

@@ -4,7 +4,7 @@ from __future__ import annotations
 from collections.abc import Callable, Iterator
 from typing import Any
 
-from interchange.elements import INITIALIZERS, Unit, UnitKind
+from interchange.elements import INITIALIZERS, METHODS, UnitKind
 from serving.ways import View, selectors, text_of
 
 WARNING = 2
@@ -23,11 +23,10 @@ def warning(view: View, span: tuple[int, int], text: str, code: str) -> dict[str
 def unanswered(view: View) -> Iterator[dict[str, Any]]:
     """Selectors that no class here answers."""
     known = selectors(view.index)
-    for unit in (unit for unit in view.index.units if unit.text):
-        found = view.index.analysis(unit)
+    for _, text, found in view.index.texts:
         if found.sent <= known:
             continue
-        place = unit.text.text.place
+        place = text.text.place
         for send in (send for send in found.sends if send.selector not in known):
             span = (place(send.parts[0][0]), place(send.parts[0][1]))
             yield warning(view, span, "no class here answers `%s`" % text_of(send.selector), "unanswered")
@@ -35,40 +34,31 @@ def unanswered(view: View) -> Iterator[dict[str, Any]]:
 
 def unread(view: View) -> Iterator[dict[str, Any]]:
     """Variables and temporaries that are never read. Parameters may go unread."""
-    read = {
-        view.index.seen_from(unit).key(name)
-        for unit in view.index.units
-        if unit.text
-        for name in view.index.analysis(unit).read
-    }
-    for unit in view.index.units:
+    for unit in (unit for unit in view.index.units if unit.kind in DECLARING):
         place = unit.header.text.place
-        for key, (start, end), role in view.index.header_names(unit) if unit.kind in DECLARING else ():
-            if role == "declares" and key[0] in VARIABLES and key not in read:
+        for key, (start, end), role in view.index.header_names(unit):
+            if role == "declares" and key[0] in VARIABLES and key not in view.index.read:
                 yield warning(view, (place(start), place(end)), "`%s` is never read" % text_of(key[-1]), "unread")
-        for use in view.index.analysis(unit).idle if unit.text else ():
-            span = (unit.text.text.place(use.span[0]), unit.text.text.place(use.span[1]))
+    for _, text, found in view.index.texts:
+        for use in found.idle:
+            span = (text.text.place(use.span[0]), text.text.place(use.span[1]))
             yield warning(view, span, "`%s` is never read" % text_of(use.name), "unread")
-
-
-def overridden(view: View, unit: Unit, methods: dict[tuple[bytes, bool, bytes], Unit]) -> Unit | None:
-    """The method that this one stands in the place of."""
-    name = view.index.analysis(unit).selector
-    above = view.index.above(unit.name)[1:]
-    return next((methods[one, unit.class_side, name] for one in above if (one, unit.class_side, name) in methods), None)
 
 
 def repeated(view: View) -> Iterator[dict[str, Any]]:
     """Methods that a superclass has word for word."""
     methods = {
-        (unit.name, unit.class_side, view.index.analysis(unit).selector): unit for unit in view.index.file.methods()
+        (unit.name, unit.class_side, found.selector): (text, found)
+        for unit, text, found in view.index.texts
+        if unit.kind in METHODS
     }
-    for unit in (unit for unit in methods.values() if unit.text and view.index.analysis(unit).pattern):
-        other = overridden(view, unit, methods)
-        if other and other.text and other.text.text.bytes.split() == unit.text.text.bytes.split():
-            start, end = view.index.analysis(unit).pattern[0]
-            span = (unit.text.text.place(start), unit.text.text.place(end))
-            yield warning(view, span, "%s has this method word for word" % text_of(other.name), "repeated")
+    for (name, side, selector), (text, found) in methods.items():
+        above = ((one, methods.get((one, side, selector))) for one in view.index.above(name)[1:])
+        of, other = next((row for row in above if row[1]), (b"", None))
+        if other and found.pattern and other[0].text.bytes.split() == text.text.bytes.split():
+            start, end = found.pattern[0]
+            span = (text.text.place(start), text.text.place(end))
+            yield warning(view, span, "%s has this method word for word" % text_of(of), "repeated")
 
 
 def idle(view: View) -> Iterator[dict[str, Any]]:

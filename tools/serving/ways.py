@@ -272,7 +272,7 @@ def completions(view: View, position: dict[str, Any]) -> list[dict[str, Any]]:
 
 def selectors(index: Index) -> set[bytes]:
     """All selectors that some class answers, of the file and built in."""
-    own = {index.analysis(unit).selector for unit in index.file.methods()}
+    own = {found.selector for unit, _, found in index.texts if unit.kind in METHODS}
     return own | {name for _, _, name in builtins.messages()}
 
 
