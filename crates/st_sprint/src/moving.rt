@@ -40,8 +40,8 @@ fn turn<H: Heap>(machine: &mut Machine<H>, aside: bool)
     machine.contexts.set_loop_aside(aside);
 }
 
-// The loop is dropped.
-fn drop_loop<H: Heap>(machine: &mut Machine<H>)
+/// The innermost activation is dropped.
+pub fn drop_innermost<H: Heap>(machine: &mut Machine<H>)
     ensures { machine.new ≡ with_stack machine.old (popped machine.old.stack) }
 {
     machine.contexts.pop();
@@ -52,7 +52,7 @@ fn finish<H: Heap>(machine: &mut Machine<H>, value: Value, budget: Budget) -> Bu
     requires runs { machine.old.mode ≡ Run }
     ensures { SameRun budget.steps budget.turns (left_with (Outcome.Answer value) machine.old) result.steps result.turns machine.new }
 {
-    drop_loop(machine);
+    drop_innermost(machine);
     deliver_to_body(machine, value, budget)
 }
 
