@@ -10,6 +10,7 @@ ghost use Rattle.st_sprint.specs.Sprinting.{SameRun};
 
 use crate::budget::Budget;
 use crate::sends::send;
+use crate::supers::super_send;
 use crate::values::{deliver, push_on};
 use object_heap::{Closure, Heap, Value};
 use st_code::Variable;
@@ -203,6 +204,47 @@ pub fn send_next<H: Heap>(
     let env = machine.contexts.env();
     let receiver = take_operands(machine, arguments);
     send(machine, selector, receiver, env, budget.after_instruction())
+}
+
+// The next instruction is a send to super in a body with this frame.
+fn super_of<H: Heap>(
+    machine: &mut Machine<H>,
+    selector: u32,
+    arguments: u32,
+    frame: Frame,
+    budget: Budget,
+) -> Budget
+    requires steps { 0 < budget.steps }
+    requires turns { 0 < budget.turns }
+    requires comes { Comes (Instruction.SuperSend selector arguments) machine.old }
+    requires body { body_of machine.old.stack ≡ Some frame }
+    ensures { SameRun budget.steps budget.turns machine.old result.steps result.turns machine.new }
+{
+    let env = machine.contexts.env();
+    let receiver = take_operands(machine, arguments);
+    let left = budget.after_instruction();
+    super_send(machine, frame.class, selector, receiver, env, left)
+}
+
+/// The next instruction is a send to super.
+pub fn super_next<H: Heap>(
+    machine: &mut Machine<H>,
+    selector: u32,
+    arguments: u32,
+    budget: Budget,
+) -> Budget
+    requires steps { 0 < budget.steps }
+    requires turns { 0 < budget.turns }
+    requires comes { Comes (Instruction.SuperSend selector arguments) machine.old }
+    ensures { SameRun budget.steps budget.turns machine.old result.steps result.turns machine.new }
+{
+    match machine.contexts.body() {
+        Some(frame) => {
+            let copied = *frame;
+            super_of(machine, selector, arguments, copied, budget)
+        }
+        None => budget,
+    }
 }
 
 // The last operand is the body's value, and the body is dropped.

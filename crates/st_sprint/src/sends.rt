@@ -43,12 +43,13 @@ const TRANSCRIPT_WRITER: u32 = 22;
 
 /// A side of a class, where methods are looked up.
 #[derive(Clone, Copy, Debug, PartialEq, Eq)]
-struct Level {
-    side: Side,
-    class: u32,
+pub struct Level {
+    pub side: Side,
+    pub class: u32,
 }
 
-fn instances_of(class: u32) -> Level
+/// Where the lookup of instances of a class begins.
+pub fn instances_of(class: u32) -> Level
     ensures { result ≡ record { side = sides.Instance; class = class } }
 {
     Level {
@@ -82,8 +83,8 @@ fn level_for<H: Heap>(machine: &Machine<H>, receiver: Value) -> Level
     }
 }
 
-// What a lookup from there finds, which is kept for the next time.
-fn found_from<H: Heap>(machine: &mut Machine<H>, from: Level, selector: u32) -> Option<Found>
+/// What a lookup from there finds, which is kept for the next time.
+pub fn found_from<H: Heap>(machine: &mut Machine<H>, from: Level, selector: u32) -> Option<Found>
     ensures same { machine.new ≡ machine.old }
     ensures found { option_map as_row result ≡ lookup (program_in machine.old.plan) (level (on_side from.side) from.class) selector }
 {
@@ -208,8 +209,8 @@ fn send_number<H: Heap>(
     }
 }
 
-// Whether there is room for the values that are passed on. There is.
-fn passes<H: Heap>(machine: &mut Machine<H>) -> bool
+/// Whether there is room for the values that are passed on. There is.
+pub fn passes<H: Heap>(machine: &mut Machine<H>) -> bool
     ensures same { machine.new ≡ machine.old }
     ensures fits { result ≡ fits_in machine.old.passed.values machine.old.passed }
 {
