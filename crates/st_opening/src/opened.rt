@@ -2,13 +2,14 @@
 ghost use Rattle.std.specs.Prelude.{◌≡◌, map, IfOk};
 ghost use Rattle.st_code.specs.Compiled.{compile_of, seen_code};
 ghost use Rattle.st_machine.specs.Plans.{plan_of, program_from};
+ghost use Rattle.st_machine.specs.Steps.{first_seen};
 ghost use Rattle.st_opening.specs.Opened.{are_counted, are_few, HasRoom, HaveFew, opened_seen};
 
 use cell_heap::CellHeap;
 use program_image::build;
 use st_base::{Limits, OutOfMemory};
 use st_code::Code;
-use st_compiler::compile;
+use st_compiler::{Loaded as Compiled, compile};
 use st_literals::literal_heap;
 use st_machine::{Loaded, Machine};
 use st_messages::arity_of;
@@ -32,12 +33,59 @@ pub fn open(
     ensures room { IfOk result (λ _. HasRoom (plan_of definition.units limits)) }
 {
     let program = compile(alloc, build(alloc, definition)?)?;
+    open_compiled(alloc, program, limits)
+}
+
+// A machine for a compiled program.
+fn open_compiled(
+    alloc: Global,
+    program: Compiled,
+    limits: Limits,
+) -> Result<Machine<CellHeap>, OutOfMemory>
+    ensures opened { IfOk result (λ machine. machine ≡ opened_seen program limits) }
+    ensures few { IfOk result (λ _. HaveFew (compile_of (program_from program limits))) }
+    ensures room { IfOk result (λ _. HasRoom (plan_of program limits)) }
+{
     if !are_few(program.codes()) {
+        drop(program);
         return Err(OutOfMemory);
     }
-    let heap = literal_heap(alloc, program.image(), limits.cells)?;
-    let loaded = Loaded::new(alloc, program, limits)?;
+    let Ok(heap) = literal_heap(alloc, program.image(), limits.cells) else {
+        drop(program);
+        return Err(OutOfMemory);
+    };
+    open_over(alloc, program, limits, heap)
+}
+
+// A machine for a compiled program over a heap.
+fn open_over(
+    alloc: Global,
+    program: Compiled,
+    limits: Limits,
+    heap: CellHeap,
+) -> Result<Machine<CellHeap>, OutOfMemory>
+    ensures opened { IfOk result (λ machine. machine ≡ first_seen (plan_of program limits) heap.memory) }
+    ensures room { IfOk result (λ _. HasRoom (plan_of program limits)) }
+{
+    let Ok(loaded) = Loaded::new(alloc, program, limits) else {
+        drop(heap);
+        return Err(OutOfMemory);
+    };
+    open_loaded(alloc, loaded, heap)
+}
+
+// A machine for a loaded program over a heap.
+fn open_loaded(
+    alloc: Global,
+    loaded: Loaded,
+    heap: CellHeap,
+) -> Result<Machine<CellHeap>, OutOfMemory>
+    ensures opened { IfOk result (λ machine. machine ≡ first_seen loaded heap.memory) }
+    ensures room { IfOk result (λ _. HasRoom loaded) }
+{
     if !are_counted(loaded.names()) {
+        drop(loaded);
+        drop(heap);
         return Err(OutOfMemory);
     }
     Machine::open(alloc, loaded, heap)
