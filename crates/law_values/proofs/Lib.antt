@@ -1,0 +1,10 @@
+pub mod BuiltObjects
+pub mod BuiltTable
+pub mod BuiltActions
+pub mod BuiltRows
+pub mod BuiltVisits
+pub mod BuiltSends
+pub mod BuiltMachine
+pub mod BuiltRun
+pub mod PlainLiterals
+pub mod KnownPrograms

@@ -1,0 +1,3 @@
+pub mod BuiltObjects
+pub mod KnownBuilt
+pub mod BuiltRun
