@@ -8,3 +8,5 @@ pub mod BuiltMachine
 pub mod BuiltRun
 pub mod PlainLiterals
 pub mod KnownPrograms
+pub mod NamedSymbols
+pub mod HeldSymbols

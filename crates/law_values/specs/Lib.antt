@@ -1,3 +1,4 @@
 pub mod BuiltObjects
 pub mod KnownBuilt
 pub mod BuiltRun
+pub mod NamedSymbols

@@ -1,6 +1,8 @@
-// The law of values: over a whole run each built-in object's slots hold what its messages put there, and each Fraction stands in lowest terms.
+// The laws of values, over a whole run: each built-in object's slots hold what its messages put there, each Fraction stands in lowest terms, and the numbers of symbols and selectors name something.
 #![tactic(auto)]
 
-mod law;
+mod objects;
+mod symbols;
 
-pub use law::each_object_is_built;
+pub use objects::each_object_is_built;
+pub use symbols::each_symbol_is_named;

@@ -1,5 +1,5 @@
 -- Why the objects of each state are built.
-use Rattle.law_values.proofs.law.each_object_is_built.Goals as goal
+use Rattle.law_values.proofs.objects.each_object_is_built.Goals as goal
 use Rattle.law_values.proofs.BuiltRun.{objects_are_built}
 use Rattle.law_values.proofs.KnownPrograms.{programs_know_built}
 
