@@ -1,5 +1,5 @@
 -- What messages and loops do at once leaves objects built: what is asked of an action and of a visit.
-use Rattle.std.proofs.Common.{◌≡◌, true}
+use Rattle.std.proofs.Common.{◌≡◌, ◌<◌, length, true}
 use Rattle.st_code.specs.Program.{Program}
 use Rattle.st_collections.specs.Actions.{Action, Changes, Makes, Raises, RaisesNew, Visit, Charges}
 use Rattle.law_values.specs.BuiltObjects.{BuiltStore}
@@ -15,5 +15,5 @@ abbrev pub ActionBuilt : Program → Action → Type 0
 ActionBuilt p (Changes s v) = BuiltStore p s
 ActionBuilt p (Makes cells s v) = BuiltStore p s
 ActionBuilt p (Raises s e) = BuiltStore p s
-ActionBuilt p (RaisesNew class slots) = is_open class ≡ true
+ActionBuilt p (RaisesNew class slots) = (is_open class ≡ true) × (class < length p.classes)
 ActionBuilt p a = Unit {0}

@@ -1,5 +1,5 @@
 -- Objects stay built: a law for each small step of the flat machine.
-use Rattle.std.proofs.Common.{◌≡◌, ℕ, ◌+◌, ◌-◌, ◌≤◌, max, take, replicate, get_or, length, List, [], ◌∷◌, Option, Some, None, Bool, true, false, refl, ap, arith, nat_lt, nat_le, if◌then◌else◌, ◌++◌, zero, suc}
+use Rattle.std.proofs.Common.{◌≡◌, ℕ, ◌+◌, ◌-◌, ◌≤◌, ◌<◌, max, take, replicate, get_or, length, List, [], ◌∷◌, Option, Some, None, Bool, true, false, refl, ap, arith, nat_lt, nat_le, if◌then◌else◌, ◌++◌, zero, suc}
 use Rattle.std.proofs.lemmas.List.{length-append}
 use Rattle.object_heap.specs.declared.value.Value.{Value}
 use Rattle.object_heap.specs.declared.value.Value.TheVariants.{Nil, Symbol, Object}
@@ -36,7 +36,7 @@ module _ (p : Program) where
 
   abbrev pub UseBuilt : Use → Type 0
   UseBuilt (Perform a env) = ActionBuilt p a
-  UseBuilt (RaiseNew class slots env) = is_open class ≡ true
+  UseBuilt (RaiseNew class slots env) = (is_open class ≡ true) × (class < length p.classes)
   UseBuilt (VisitBy n v env) = VisitBuilt p v
   UseBuilt u = Unit {0}
 
@@ -66,13 +66,13 @@ module _ (p : Program) where
       let b = nils (n - length slots) in
       taken n (slots ++ replicate (n - length slots) Nil) (omega (arith, a, b))
 
-  exception_built : (s : Store) (c : ℕ) (slots : List Value) → is_open c ≡ true → BuiltStore p s → BuiltStore p (with_exception p c slots s)
+  exception_built : (s : Store) (c : ℕ) (slots : List Value) → (is_open c ≡ true) × (c < length p.classes) → BuiltStore p s → BuiltStore p (with_exception p c slots s)
   unfolding with_exception
-  exception_built s c slots f r = built_new p s c (exception_slots p c slots) [] r (unbound_object p s _ (not_false (is_bound c) f) refl (λ e. exception_length c slots))
+  exception_built s c slots f r = built_new p s c (exception_slots p c slots) [] r (unbound_object p s _ (not_false (is_bound c) f.0) refl (λ e. exception_length c slots) f.1)
 
-  arguments_built : (s : Store) (args : List Value) → BuiltStore p s → BuiltStore p (with_arguments args s)
+  arguments_built : (known : KnowsBuilt p) (s : Store) (args : List Value) → BuiltStore p s → BuiltStore p (with_arguments args s)
   unfolding with_arguments
-  arguments_built s args r = built_new p s array_class args [] r (free_object p s _ refl refl)
+  arguments_built known s args r = built_new p s array_class args [] r (free_object p s _ refl refl (omega (arith, known.classes)))
 
   last_read : (os : List HeapObject) (o : HeapObject) → get_or (os ++ o ∷ []) (length os) no_object ≡ o
   last_read [] o = refl
@@ -86,7 +86,7 @@ module _ (p : Program) where
   unfolding with_message
   message_built known s selector args r =
       let t = with_arguments args s in
-      built_new p t message_class (Symbol selector ∷ next_object s ∷ []) [] (arguments_built s args r) (new_message p known t selector (length s.objects) (array_last s args))
+      built_new p t message_class (Symbol selector ∷ next_object s ∷ []) [] (arguments_built known s args r) (new_message p known t selector (length s.objects) (array_last s args))
 
   -- ---- charges
 
@@ -126,10 +126,10 @@ module _ (p : Program) (classes : KnowsClasses p) (knows : KnowsCollections p) (
     open_built x acts st r = stood_built p (M acts) st _ _ r (λ d n. used_built p (scope_cells (body_at p x.code)) _ _ _ r (λ c. opens x (record st { depth = d; next = n; cells = c }) r))
 
     raise_built : (live : Bool) (e : ℕ) (env : Env) (acts : List (Act FlatBody)) (st : State) → BuiltStore p st.store → MachBuilt p (raise_act F p live e env acts st)
-    raise_built true e env acts st r = (r, refl)
+    raise_built true e env acts st r = (r, (refl, omega (arith, known.classes)))
     raise_built false e env acts st r = stood_built p (M acts) st _ _ r (λ d n. (r, tt))
 
-    raise_new_built : (c : ℕ) (slots : List Value) (env : Env) (acts : List (Act FlatBody)) (st : State) → is_open c ≡ true → BuiltStore p st.store → MachBuilt p (raise_new_act F p c slots env acts st)
+    raise_new_built : (c : ℕ) (slots : List Value) (env : Env) (acts : List (Act FlatBody)) (st : State) → (is_open c ≡ true) × (c < length p.classes) → BuiltStore p st.store → MachBuilt p (raise_new_act F p c slots env acts st)
     raise_new_built c slots env acts st f r =
         let y = exception_built p st.store c slots f r in
         stood_built p (M acts) st _ _ r (λ d i. used_built p (exception_cells p c) _ _ _ r (λ u. (y, tt)))
@@ -159,18 +159,18 @@ module _ (p : Program) (classes : KnowsClasses p) (knows : KnowsCollections p) (
 
     asked_built : (a : Bool) (w : Wait) (k : ℕ) (t : Turn) (env : Env) (acts : List (Act FlatBody)) (st : State) → BuiltStore p st.store → MachBuilt p (asked_act F p a w k t env acts st)
     asked_built true (ToResume v) k t env acts st r = r
-    asked_built false (ToResume v) k t env acts st r = (r, refl)
+    asked_built false (ToResume v) k t env acts st r = (r, (refl, omega (arith, known.classes)))
     asked_built true ToOuter k t env acts st r = stood_built p (M acts) st _ _ r (λ d n. (r, tt))
     asked_built false ToOuter k t env acts st r = (r, tt)
 
     resignal_built : (a live : Bool) (t : Turn) (f : ℕ) (v : Value) (env : Env) (acts : List (Act FlatBody)) (st : State) → BuiltStore p st.store → MachBuilt p (resignal_act F p a live t f v env acts st)
-    resignal_built false live t f v env acts st r = (r, refl)
-    resignal_built true true t f v env acts st r = (r, refl)
+    resignal_built false live t f v env acts st r = (r, (refl, omega (arith, known.classes)))
+    resignal_built true true t f v env acts st r = (r, (refl, omega (arith, known.classes)))
     resignal_built true false t f v env acts st r = r
 
     resignal_as_built : (t : Turn) (v : Value) (env : Env) (acts : List (Act FlatBody)) (st : State) → BuiltStore p st.store → MachBuilt p (resignal_as_act F p t v env acts st)
     resignal_as_built t (Object f) env acts st r = resignal_built (is_exception p st.store (Object f)) (is_live f (M acts)) t f (Object f) env acts st r
-    resignal_as_built t v env acts st r = (r, refl)
+    resignal_as_built t v env acts st r = (r, (refl, omega (arith, known.classes)))
 
     control_by_built : (c : Control) (v : Value) (k : ℕ) (t : Turn) (entry : Entry) (env : Env) (acts : List (Act FlatBody)) (st : State) → BuiltStore p st.store → MachBuilt p (control_by_act F p c v k t entry env acts st)
     control_by_built Control.Return v k t entry env acts st r = r
@@ -184,14 +184,14 @@ module _ (p : Program) (classes : KnowsClasses p) (knows : KnowsCollections p) (
 
     control_without_built : (c : Control) (v : Value) (k : ℕ) (t : Turn) (env : Env) (acts : List (Act FlatBody)) (st : State) → BuiltStore p st.store → MachBuilt p (control_without_act F p c v k t env acts st)
     control_without_built Control.Resume v k t env acts st r = (r, tt)
-    control_without_built c v k t env acts st r = (r, refl)
+    control_without_built c v k t env acts st r = (r, (refl, omega (arith, known.classes)))
 
     control_in_built : (entry : Option Entry) (c : Control) (v : Value) (k : ℕ) (t : Turn) (env : Env) (acts : List (Act FlatBody)) (st : State) → BuiltStore p st.store → MachBuilt p (control_in_act F p entry c v k t env acts st)
     control_in_built (Some entry) c v k t env acts st r = control_by_built c v k t entry env acts st r
     control_in_built None c v k t env acts st r = control_without_built c v k t env acts st r
 
     control_built : (f : FoundTurn) (c : Control) (v : Value) (env : Env) (acts : List (Act FlatBody)) (st : State) → BuiltStore p st.store → MachBuilt p (control_act F p f c v env acts st)
-    control_built NoTurn c v env acts st r = (r, refl)
+    control_built NoTurn c v env acts st r = (r, (refl, omega (arith, known.classes)))
     control_built (TurnAt k t) c v env acts st r = control_in_built t.entry c v k t env acts st r
 
     -- ---- loops, and what a message does at once
@@ -200,20 +200,20 @@ module _ (p : Program) (classes : KnowsClasses p) (knows : KnowsCollections p) (
     visit_built n (Applies l v args) env acts st f r = (r, tt)
     visit_built n (Compares l x v) env acts st f r = (r, tt)
     visit_built n (Finishes v) env acts st f r = r
-    visit_built n (Lacks l) env acts st f r = (r, refl)
+    visit_built n (Lacks l) env acts st f r = (r, (refl, omega (arith, known.classes)))
     visit_built n (Charges cells s v) env acts st f r = used_built p cells st _ _ r (λ c. visit_built n v env acts (record st { cells = c; store = s }) f.1 f.0)
 
     missed_built : (selector : ℕ) (x : Value) (args : List Value) (env : Env) (acts : List (Act FlatBody)) (st : State) → BuiltStore p st.store → MachBuilt p (perform_act F p (Misses selector x args) env acts st)
     missed_built selector x args env acts st r =
-        used_built p (1 + length args) st _ _ r (λ c. used_built p 3 _ _ _ (arguments_built p st.store args r) (λ d. (message_built p known st.store selector args r, tt)))
+        used_built p (1 + length args) st _ _ r (λ c. used_built p 3 _ _ _ (arguments_built p known st.store args r) (λ d. (message_built p known st.store selector args r, tt)))
 
     perform_built : (a : Action) (env : Env) (acts : List (Act FlatBody)) (st : State) → ActionSound p st.store a → BuiltStore p st.store → ActionBuilt p a → MachBuilt p (perform_act F p a env acts st)
     perform_built (Gives v) env acts st g r f = r
     perform_built (Changes s v) env acts st g r f = f
     perform_built (Makes cells s v) env acts st g r f = used_built p cells st _ _ r (λ c. f)
     perform_built (Writes text v) env acts st g r f = r
-    perform_built (Fails trouble) env acts st g r f = (r, refl)
-    perform_built (DividesByZero dividend) env acts st g r f = (r, refl)
+    perform_built (Fails trouble) env acts st g r f = (r, (refl, omega (arith, known.classes)))
+    perform_built (DividesByZero dividend) env acts st g r f = (r, (refl, omega (arith, known.classes)))
     perform_built PassesIntegers env acts st g r f = r
     perform_built (Begins v args) env acts st g r f = (r, tt)
     perform_built (Activates c args) env acts st g r f = (r, tt)
@@ -223,7 +223,7 @@ module _ (p : Program) (classes : KnowsClasses p) (knows : KnowsCollections p) (
     perform_built (Guards receiver selector handler) env acts st g r f = stood_built p (M acts) st _ _ r (λ d n. (r, tt))
     perform_built (Ensures receiver block) env acts st g r f = stood_built p (M acts) st _ _ r (λ d n. (r, tt))
     perform_built (Curtails receiver block) env acts st g r f = stood_built p (M acts) st _ _ r (λ d n. (r, tt))
-    perform_built (Iterates l) env acts st g r f = stood_built p (M acts) st _ _ r (λ d n. (r, (first_visit_built p st.store r l g).built))
+    perform_built (Iterates l) env acts st g r f = stood_built p (M acts) st _ _ r (λ d n. (r, (first_visit_built p known st.store r l g).built))
     perform_built (Raises s x) env acts st g r f = (f, tt)
     perform_built (RaisesNew class slots) env acts st g r f = (r, f)
     perform_built (Controls c x v) env acts st g r f = control_built (turn_of x (M acts)) c v env acts st r
@@ -281,7 +281,7 @@ module _ (p : Program) (classes : KnowsClasses p) (knows : KnowsCollections p) (
     give_built v (OuterAct n) acts st g r = r
     give_built v (ResumeWait n w k t env) acts st g r = asked_built (is_true v) w k t env acts st r
     give_built v (HandlesWait n x entry rest) acts st g r = tried_built (is_true v) x entry rest acts (ended n (Answer v) st) r
-    give_built v (LoopAct n l env) acts st g r = (r, (next_visit_built p st.store r l v g).built)
+    give_built v (LoopAct n l env) acts st g r = (r, (next_visit_built p known st.store r l v g).built)
 
     unwind_built : (t : Target) (v : Value) (a : Act FlatBody) (acts : List (Act FlatBody)) (st : State) → BuiltStore p st.store → MachBuilt p (unwind F p t v a acts st)
     unwind_built t v (BodyAct x) acts st r = r

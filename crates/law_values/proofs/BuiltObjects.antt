@@ -52,9 +52,10 @@ unbound class f = go (nat_eq class 6) (nat_eq class 16) (nat_eq class 18) (nat_e
 module _ (p : Program) where
   -- ---- new objects
 
-  pub unbound_object : (s : Store) (o : HeapObject) → is_bound o.class ≡ false → o.closure ≡ None → (is_fixed o.class ≡ true → length o.slots ≡ (class_at p o.class).slots) → BuiltObject p s o
-  unbound_object s o f c g =
+  pub unbound_object : (s : Store) (o : HeapObject) → is_bound o.class ≡ false → o.closure ≡ None → (is_fixed o.class ≡ true → length o.slots ≡ (class_at p o.class).slots) → o.class < length p.classes → BuiltObject p s o
+  unbound_object s o f c g l =
       record {
+        classed = l;
         counted = g;
         fraction = λ e. absurd (fraction_apart o.class f e);
         interval = λ e. absurd (interval_apart o.class f e);
@@ -63,11 +64,15 @@ module _ (p : Program) where
         only_blocks = inl c;
       }
 
-  pub free_object : (s : Store) (o : HeapObject) → is_fixed o.class ≡ false → o.closure ≡ None → BuiltObject p s o
-  free_object s o f c = unbound_object s o (unbound o.class f) c (λ e. absurd (true≢false (sym e ∙ f)))
+  pub free_object : (s : Store) (o : HeapObject) → is_fixed o.class ≡ false → o.closure ≡ None → o.class < length p.classes → BuiltObject p s o
+  free_object s o f c l = unbound_object s o (unbound o.class f) c (λ e. absurd (true≢false (sym e ∙ f))) l
 
-  pub no_object_built : (s : Store) → BuiltObject p s no_object
-  no_object_built s = free_object s no_object refl refl
+  pub no_object_built : (s : Store) → 0 < length p.classes → BuiltObject p s no_object
+  no_object_built s l = free_object s no_object refl refl l
+
+  -- a program has a class, where a store is built
+  some_class : (s : Store) → BuiltStore p s → 0 < length p.classes
+  some_class s h = let l = (h.each 0).classed in omega (arith, l)
 
   -- ---- later stores
 
@@ -96,6 +101,7 @@ module _ (p : Program) where
   pub built_on : (s t : Store) → Onward s t → (o : HeapObject) → BuiltObject p s o → BuiltObject p t o
   built_on s t e o h =
       record {
+        classed = h.classed;
         counted = h.counted;
         fraction = h.fraction;
         interval = h.interval;
@@ -150,19 +156,20 @@ module _ (p : Program) where
   built_added s o h g =
       let t = object_added o s in
       let e = onward_added s o in
-      record { each = added_all (λ q. BuiltObject p t q) (no_object_built t) s.objects o (λ n. built_on s t e (object_at n s) (h.each n)) (built_on s t e o g) }
+      record { each = added_all (λ q. BuiltObject p t q) (no_object_built t (some_class s h)) s.objects o (λ n. built_on s t e (object_at n s) (h.each n)) (built_on s t e o g) }
 
   pub built_set : (s : Store) (n : ℕ) (o : HeapObject) → BuiltStore p s → o.class ≡ (object_at n s).class → BuiltObject p s o → BuiltStore p (object_set n o s)
   built_set s n o h c g =
       let t = object_set n o s in
       let e = onward_set s n o c in
-      record { each = set_all (λ q. BuiltObject p t q) (no_object_built t) s.objects n o (λ m. built_on s t e (object_at m s) (h.each m)) (built_on s t e o g) }
+      record { each = set_all (λ q. BuiltObject p t q) (no_object_built t (some_class s h)) s.objects n o (λ m. built_on s t e (object_at m s) (h.each m)) (built_on s t e o g) }
 
   -- a new block
-  block_built : (class_at p block_class).slots ≡ 0 → (s : Store) (c : Closure) → BuiltObject p (block_added block_class c s) (block_object block_class (length s.closures))
-  block_built k s c =
+  block_built : (class_at p block_class).slots ≡ 0 → block_class < length p.classes → (s : Store) (c : Closure) → BuiltObject p (block_added block_class c s) (block_object block_class (length s.closures))
+  block_built k l s c =
       let f = length-append s.closures (c ∷ []) in
       record {
+        classed = l;
         counted = λ e. sym k;
         fraction = λ e. let none : ⊥ = omega (arith, e) in absurd none;
         interval = λ e. let none : ⊥ = omega (arith, e) in absurd none;
@@ -171,11 +178,11 @@ module _ (p : Program) where
         only_blocks = inr refl;
       }
 
-  pub built_block : (class_at p block_class).slots ≡ 0 → (s : Store) (c : Closure) → BuiltStore p s → BuiltStore p (block_added block_class c s)
-  built_block k s c h =
+  pub built_block : (class_at p block_class).slots ≡ 0 → block_class < length p.classes → (s : Store) (c : Closure) → BuiltStore p s → BuiltStore p (block_added block_class c s)
+  built_block k l s c h =
       let t = block_added block_class c s in
       let e = onward_block s block_class c in
-      record { each = added_all (λ q. BuiltObject p t q) (no_object_built t) s.objects (block_object block_class (length s.closures)) (λ n. built_on s t e (object_at n s) (h.each n)) (block_built k s c) }
+      record { each = added_all (λ q. BuiltObject p t q) (no_object_built t (some_class s h)) s.objects (block_object block_class (length s.closures)) (λ n. built_on s t e (object_at n s) (h.each n)) (block_built k l s c) }
 
   -- the same objects and closures
   pub built_same : (s t : Store) → t.objects ≡ s.objects → t.closures ≡ s.closures → BuiltStore p s → BuiltStore p t
@@ -193,6 +200,7 @@ module _ (p : Program) where
   slot_object : (s : Store) (o : HeapObject) (i : ℕ) (v : Value) → is_bound o.class ≡ false → BuiltObject p s o → BuiltObject p s (record { class = o.class; slots = slice_set o.slots i v; bytes = o.bytes; capacity = o.capacity; read_only = o.read_only; closure = o.closure })
   slot_object s o i v f h =
       record {
+        classed = h.classed;
         counted = λ e. set_length o.slots i v ∙ h.counted e;
         fraction = λ e. absurd (fraction_apart o.class f e);
         interval = λ e. absurd (interval_apart o.class f e);
@@ -208,6 +216,7 @@ module _ (p : Program) where
   pub like_object : (s : Store) (o o' : HeapObject) → o'.class ≡ o.class → o'.slots ≡ o.slots → o'.closure ≡ o.closure → BuiltObject p s o → BuiltObject p s o'
   like_object s o o' c x k h =
       record {
+        classed = subst (λ i. i < length p.classes) (sym c) h.classed;
         counted = λ e. ap length x ∙ h.counted (ap (λ i. is_fixed i) (sym c) ∙ e) ∙ ap (λ i. (class_at p i).slots) (sym c);
         fraction = λ e. subst IsFraction (sym x) (h.fraction (sym c ∙ e));
         interval = λ e. subst IsInterval (sym x) (h.interval (sym c ∙ e));
@@ -225,6 +234,7 @@ module _ (p : Program) where
       let g : is_fixed o'.class ≡ false = ap (λ i. is_fixed i) c ∙ f in
       let b = unbound o'.class g in
       record {
+        classed = subst (λ i. i < length p.classes) (sym c) h.classed;
         counted = λ e. absurd (true≢false (sym e ∙ g));
         fraction = λ e. absurd (fraction_apart o'.class b e);
         interval = λ e. absurd (interval_apart o'.class b e);
@@ -258,6 +268,7 @@ module _ (p : Program) where
     pub new_fraction : (s : Store) (n d : ℤ) → IsProper (Number.Fraction n d) → BuiltObject p s (new_object fraction_class (Integer n ∷ Integer d ∷ []) [])
     new_fraction s n d h =
         record {
+          classed = omega (arith, known.classes);
           counted = λ e. sym known.fractions;
           fraction = λ e. h;
           interval = λ e. let none : ⊥ = omega (arith, e) in absurd none;
@@ -269,6 +280,7 @@ module _ (p : Program) where
     pub new_interval : (s : Store) (start stop by : ℤ) → nat_eq (nat_abs by) 0 ≡ false → BuiltObject p s (new_object interval_class (Integer start ∷ Integer stop ∷ Integer by ∷ []) [])
     new_interval s start stop by h =
         record {
+          classed = omega (arith, known.classes);
           counted = λ e. sym known.intervals;
           fraction = λ e. let none : ⊥ = omega (arith, e) in absurd none;
           interval = λ e. h;
@@ -280,6 +292,7 @@ module _ (p : Program) where
     pub new_message : (s : Store) (selector n : ℕ) → (object_at n s).class ≡ array_class → BuiltObject p s (new_object message_class (Symbol selector ∷ Object n ∷ []) [])
     new_message s selector n h =
         record {
+          classed = omega (arith, known.classes);
           counted = λ e. sym known.messages;
           fraction = λ e. let none : ⊥ = omega (arith, e) in absurd none;
           interval = λ e. let none : ⊥ = omega (arith, e) in absurd none;

@@ -1,6 +1,7 @@
 -- What messages to objects, classes, characters, strings and collections do at once leaves objects built.
 use Rattle.std.proofs.Common.{◌≡◌, ℕ, zero, suc, ◌+◌, ◌-◌, ◌<◌, inl, inr, ℤ, pos, negsuc, int_lt, is_some, nat_eq, nat_le, nat_lt, not, ◌&&◌, ◌||◌, length, get_or, map, reverse, replicate, insert, List, [], ◌∷◌, ◌++◌, Option, Some, None, Bool, true, false, eqb-true, true≢false, refl, sym, ap, ◌∙◌, subst, slice_get, arith, if◌then◌else◌}
 use Rattle.std.specs.Option.{option_and_then}
+use Rattle.std.proofs.lemmas.Bool.{ltb-true}
 use Rattle.object_heap.specs.declared.value.Value.{Value}
 use Rattle.object_heap.specs.declared.value.Value.TheVariants.{Nil, True, False, Integer, Character, Symbol, Class, Object}
 use Rattle.object_heap.specs.declared.trouble.Trouble.{Trouble}
@@ -22,7 +23,7 @@ use Rattle.law_values.specs.BuiltObjects.{BuiltObject, BuiltStore, HasClosure}
 use Rattle.law_values.specs.KnownBuilt.{KnowsBuilt}
 use Rattle.law_values.proofs.BuiltActions.{ActionBuilt}
 use Rattle.law_values.proofs.BuiltObjects.{is_bound, is_fixed, unbound, unbound_object, free_object, like_object, built_added, built_block, built_new, built_slot, built_byte, built_grown, built_removed}
-use Rattle.law_values.proofs.BuiltTable.{is_open, is_loose, is_wide, sequence_fits, collection_fits}
+use Rattle.law_values.proofs.BuiltTable.{is_open, is_loose, is_wide, sequence_fits, CollectionFits}
 
 -- ---- classes
 
@@ -42,6 +43,13 @@ module _ (p : Program) (known : KnowsBuilt p) (s : Store) (h : BuiltStore p s) w
 
   -- ---- what rows are made of
 
+  -- a class whose slots are free, that is there
+  abbrev pub Loose : ℕ → Type 0
+  Loose class = (is_loose class ≡ true) × (class < length p.classes)
+
+  pub literal : (class : ℕ) → is_loose class ≡ true → nat_lt class 30 ≡ true → Loose class
+  literal class f e = let l = ltb-true class 30 e in (f, omega (arith, l, known.classes))
+
   pub fails : (t : Trouble) → Builds (Fails t)
   fails t = record { built = tt }
 
@@ -60,29 +68,29 @@ module _ (p : Program) (known : KnowsBuilt p) (s : Store) (h : BuiltStore p s) w
   indexed_built (Integer n) size act g = index_built (index_in size n) act g
   indexed_built v size act g = record { built = tt }
 
-  pub slots_made : (class : ℕ) (slots : List Value) → is_loose class ≡ true → Builds (makes_slots class slots s)
+  pub slots_made : (class : ℕ) (slots : List Value) → Loose class → Builds (makes_slots class slots s)
   unfolding makes_slots
-  slots_made class slots f = record { built = built_new p s class slots [] h (free_object p s _ (fixed_not class f) refl) }
+  slots_made class slots f = record { built = built_new p s class slots [] h (free_object p s _ (fixed_not class f.0) refl f.1) }
 
   association_made : (k v : Value) → Builds (makes_slots association_class (k ∷ v ∷ []) s)
   unfolding makes_slots
-  association_made k v = record { built = built_new p s association_class (k ∷ v ∷ []) [] h (unbound_object p s _ refl refl (λ e. sym known.associations)) }
+  association_made k v = record { built = built_new p s association_class (k ∷ v ∷ []) [] h (unbound_object p s _ refl refl (λ e. sym known.associations) (omega (arith, known.classes))) }
 
-  pub bytes_made : (class : ℕ) (bytes : List ℕ) → is_loose class ≡ true → Builds (makes_bytes class bytes s)
+  pub bytes_made : (class : ℕ) (bytes : List ℕ) → Loose class → Builds (makes_bytes class bytes s)
   unfolding makes_bytes
-  bytes_made class bytes f = record { built = built_new p s class [] bytes h (free_object p s _ (fixed_not class f) refl) }
+  bytes_made class bytes f = record { built = built_new p s class [] bytes h (free_object p s _ (fixed_not class f.0) refl f.1) }
 
   pub string_made : (bytes : List ℕ) → Builds (makes_string bytes s)
   unfolding makes_string
-  string_made bytes = bytes_made string_class bytes refl
+  string_made bytes = bytes_made string_class bytes (literal string_class refl refl)
 
-  pub blank_made : (class slots bytes : ℕ) → is_loose class ≡ true → Builds (makes_blank class slots bytes s)
+  pub blank_made : (class slots bytes : ℕ) → Loose class → Builds (makes_blank class slots bytes s)
   unfolding makes_blank
-  blank_made class slots bytes f = record { built = built_new p s class (replicate slots Nil) (replicate bytes 0) h (free_object p s _ (fixed_not class f) refl) }
+  blank_made class slots bytes f = record { built = built_new p s class (replicate slots Nil) (replicate bytes 0) h (free_object p s _ (fixed_not class f.0) refl f.1) }
 
-  pub sequence_made : (class : ℕ) (items : List Value) → is_loose class ≡ true → Builds (makes_sequence class items s)
+  pub sequence_made : (class : ℕ) (items : List Value) → Loose class → Builds (makes_sequence class items s)
   unfolding makes_sequence
-  sequence_made class items f = if_built (nat_eq class string_class) _ _ (bytes_made string_class _ refl) (if_built (nat_eq class byte_array_class) _ _ (bytes_made byte_array_class _ refl) (slots_made class items f))
+  sequence_made class items f = if_built (nat_eq class string_class) _ _ (bytes_made string_class _ (literal string_class refl refl)) (if_built (nat_eq class byte_array_class) _ _ (bytes_made byte_array_class _ (literal byte_array_class refl refl)) (slots_made class items f))
 
   byte_given : (n i : ℕ) (v : Value) (o : Option ℕ) → Builds (elim o [ Some byte ↦ Changes (with_byte n i byte s) v | None ↦ Fails trouble.ByteExpected ])
   byte_given n i v None = record { built = tt }
@@ -133,7 +141,7 @@ module _ (p : Program) (known : KnowsBuilt p) (s : Store) (h : BuiltStore p s) w
       record { built = built_added p s _ h (like_object p s o _ refl refl (sym (no_closure o o.closure refl e (h.each n))) (h.each n)) }
   copied_built n (Some closure) e =
       let o = object_at n s in
-      record { built = subst (λ k. BuiltStore p (block_added k closure s)) (sym (has_closure o o.closure closure refl e (h.each n))) (built_block p known.blocks s closure h) }
+      record { built = subst (λ k. BuiltStore p (block_added k closure s)) (sym (has_closure o o.closure closure refl e (h.each n))) (built_block p known.blocks (omega (arith, known.classes)) s closure h) }
 
   display_by : (o : Option Text) (selector : ℕ) (r : Value) → Builds (elim o [ Some bytes ↦ makes_string bytes s | None ↦ Sends selector r [] ])
   display_by None selector r = record { built = tt }
@@ -150,14 +158,14 @@ module _ (p : Program) (known : KnowsBuilt p) (s : Store) (h : BuiltStore p s) w
   read_by ByByte at n m f g = indexed_built at m _ (λ j. gives (g j))
 
   -- an indexed variable of an object whose class is of the file
-  written_by : (in_file : Bool) (i : Indexed) (number named m : ℕ) (at v : Value) → (in_file ≡ true → is_loose (object_at number s).class ≡ true) → Builds (elim (if in_file then i else NoIndexes) [
+  written_by : (in_file : Bool) (i : Indexed) (number named m : ℕ) (at v : Value) → (in_file ≡ true → Loose (object_at number s).class) → Builds (elim (if in_file then i else NoIndexes) [
     | NoIndexes ↦ Fails trouble.NotIndexed
     | ByObject ↦ indexed at (length (object_at number s).slots - named) (λ j. Changes (with_slot number (named + j) v s) v)
     | ByByte ↦ indexed at m (λ j. byte_put s number j v)
   ])
   written_by false i number named m at v f = record { built = tt }
   written_by true NoIndexes number named m at v f = record { built = tt }
-  written_by true ByObject number named m at v f = indexed_built at (length (object_at number s).slots - named) (λ j. Changes (with_slot number (named + j) v s) v) (λ j. slot_set number (named + j) v v (loose_open (object_at number s).class (f refl)))
+  written_by true ByObject number named m at v f = indexed_built at (length (object_at number s).slots - named) (λ j. Changes (with_slot number (named + j) v s) v) (λ j. slot_set number (named + j) v v (loose_open (object_at number s).class (f refl).0))
   written_by true ByByte number named m at v f = indexed_built at m (λ j. byte_put s number j v) (λ j. byte_set number j v)
 
   abbrev perform : Value → ℕ → List Value → Action
@@ -199,7 +207,7 @@ module _ (p : Program) (known : KnowsBuilt p) (s : Store) (h : BuiltStore p s) w
 
   -- what is asked of the classes of the file
   abbrev pub Declared : Type 0
-  Declared = (class : ℕ) → (class_at p class).in_file ≡ true → is_loose class ≡ true
+  Declared = (class : ℕ) → (class_at p class).in_file ≡ true → Loose class
 
   pub objects_built : Declared → (m : ObjectMessage) (r : Value) (args : List Value) → Builds (object_action p s m r args)
   unfolding object_action
@@ -219,8 +227,8 @@ module _ (p : Program) (known : KnowsBuilt p) (s : Store) (h : BuiltStore p s) w
   objects_built d ObjectMessage.AtPut (Object n) args =
       let o = object_at n s in written_by (class_at p o.class).in_file (class_at p o.class).indexed n (class_at p o.class).slots (length o.bytes) (first args) (second args) (d o.class)
   objects_built d ObjectMessage.AtPut r args = record { built = tt }
-  objects_built d ObjectMessage.ErrorText r args = record { built = refl }
-  objects_built d ObjectMessage.NotUnderstood r args = record { built = refl }
+  objects_built d ObjectMessage.ErrorText r args = record { built = (refl, omega (arith, known.classes)) }
+  objects_built d ObjectMessage.NotUnderstood r args = record { built = (refl, omega (arith, known.classes)) }
   objects_built d ObjectMessage.Perform r args = performed_built r (first args) (behind_first args)
   objects_built d ObjectMessage.PerformWithArguments r args = performed_with_built r (first args) (second args)
   objects_built d ObjectMessage.Arrow r args = association_made r (first args)
@@ -238,7 +246,7 @@ module _ (p : Program) (known : KnowsBuilt p) (s : Store) (h : BuiltStore p s) w
   sized_by (Integer (negsuc n)) act g = record { built = tt }
   sized_by v act g = record { built = tt }
 
-  new_by : (i : Indexed) (class : ℕ) (v : Value) (f g : ℕ → ℕ) (k : ℕ) → is_loose class ≡ true → Builds (elim i [
+  new_by : (i : Indexed) (class : ℕ) (v : Value) (f g : ℕ → ℕ) (k : ℕ) → Loose class → Builds (elim i [
     | NoIndexes ↦ Fails trouble.NotIndexed
     | ByObject ↦ sized v (λ n. makes_blank class (f n) 0 s)
     | ByByte ↦ sized v (λ n. makes_blank class k n s)
@@ -247,11 +255,11 @@ module _ (p : Program) (known : KnowsBuilt p) (s : Store) (h : BuiltStore p s) w
   new_by ByObject class v f g k e = sized_by v (λ n. makes_blank class (f n) 0 s) (λ n. blank_made class (f n) 0 e)
   new_by ByByte class v f g k e = sized_by v (λ n. makes_blank class k n s) (λ n. blank_made class k n e)
 
-  new_if : (b : Bool) (class : ℕ) → (b ≡ true → is_loose class ≡ true) → Builds (if b then makes_blank class (class_at p class).slots 0 s else Fails trouble.CannotBeInstantiated)
+  new_if : (b : Bool) (class : ℕ) → (b ≡ true → Loose class) → Builds (if b then makes_blank class (class_at p class).slots 0 s else Fails trouble.CannotBeInstantiated)
   new_if true class d = blank_made class (class_at p class).slots 0 (d refl)
   new_if false class d = record { built = tt }
 
-  new_sized_if : (b : Bool) (class : ℕ) (v : Value) → (b ≡ true → is_loose class ≡ true) → Builds (if b then elim (class_at p class).indexed [
+  new_sized_if : (b : Bool) (class : ℕ) (v : Value) → (b ≡ true → Loose class) → Builds (if b then elim (class_at p class).indexed [
     | NoIndexes ↦ Fails trouble.NotIndexed
     | ByObject ↦ sized v (λ n. makes_blank class ((class_at p class).slots + n) 0 s)
     | ByByte ↦ sized v (λ n. makes_blank class (class_at p class).slots n s)
@@ -382,27 +390,31 @@ module _ (p : Program) (known : KnowsBuilt p) (s : Store) (h : BuiltStore p s) w
       go false true b e f = absurd (true≢false e)
       go false false b e f = f
 
-  species_loose : (r : Value) → is_wide (level_of s r).class ≡ true → is_loose (species s r) ≡ true
-  unfolding level_of species
-  species_loose (Object n) f = loose_species (nat_eq (object_at n s).class interval_class) (object_at n s).class refl f
-  species_loose r f = refl
+  species_there : (b : Bool) (n : ℕ) → (if b then array_class else (object_at n s).class) < length p.classes
+  species_there true n = omega (arith, known.classes)
+  species_there false n = (h.each n).classed
 
-  joined_built : (o : Option Trouble) (class : ℕ) (items : List Value) → is_loose class ≡ true → Builds (elim o [ Some t ↦ Fails t | None ↦ makes_sequence class items s ])
+  species_loose : (r : Value) → is_wide (level_of s r).class ≡ true → Loose (species s r)
+  unfolding level_of species
+  species_loose (Object n) f = (loose_species (nat_eq (object_at n s).class interval_class) (object_at n s).class refl f, species_there (nat_eq (object_at n s).class interval_class) n)
+  species_loose r f = (refl, omega (arith, known.classes))
+
+  joined_built : (o : Option Trouble) (class : ℕ) (items : List Value) → Loose class → Builds (elim o [ Some t ↦ Fails t | None ↦ makes_sequence class items s ])
   joined_built None class items f = sequence_made class items f
   joined_built (Some t) class items f = record { built = tt }
 
-  join_built : (r v : Value) → is_loose (species s r) ≡ true → Builds (join p s r v)
+  join_built : (r v : Value) → Loose (species s r) → Builds (join p s r v)
   join_built r v f =
       if_built (is_sequence s v) (elim (element_trouble (species s r) (elements p s v)) [ Some t ↦ Fails t | None ↦ makes_sequence (species s r) (elements p s r ++ elements p s v) s ]) (Fails trouble.CollectionExpected)
       (joined_built (element_trouble (species s r) (elements p s v)) (species s r) (elements p s r ++ elements p s v) f) (fails trouble.CollectionExpected)
 
-  between_built : (r : Value) (i j : ℤ) → is_loose (species s r) ≡ true → Builds (copy_between p s r i j)
+  between_built : (r : Value) (i j : ℤ) → Loose (species s r) → Builds (copy_between p s r i j)
   between_built r i j f =
       let items = some_elements p s r (natural_of i) (natural_of j + 1 - natural_of i) in
       if_built (int_lt j i) (makes_sequence (species s r) [] s) (if is_index (size_of p s r) i && is_index (size_of p s r) j then makes_sequence (species s r) items s else Fails trouble.IndexOutOfRange) (sequence_made (species s r) [] f)
       (if_built (is_index (size_of p s r) i && is_index (size_of p s r) j) (makes_sequence (species s r) items s) (Fails trouble.IndexOutOfRange) (sequence_made (species s r) items f) (fails trouble.IndexOutOfRange))
 
-  part_built : (r v w : Value) → is_loose (species s r) ≡ true → Builds (copy_from_to p s r v w)
+  part_built : (r v w : Value) → Loose (species s r) → Builds (copy_from_to p s r v w)
   part_built r (Integer i) (Integer j) f = between_built r i j f
   part_built r v w f = record { built = tt }
 
@@ -414,8 +426,8 @@ module _ (p : Program) (known : KnowsBuilt p) (s : Store) (h : BuiltStore p s) w
   sequences_built SequenceMessage.Join r args f = join_built r (first args) (species_loose r f)
   sequences_built SequenceMessage.CopyFromTo r args f = part_built r (first args) (second args) (species_loose r f)
   sequences_built SequenceMessage.Reverse r args f = sequence_made (species s r) (reverse (elements p s r)) (species_loose r f)
-  sequences_built SequenceMessage.AsArray r args f = slots_made array_class (elements p s r) refl
-  sequences_built SequenceMessage.AsOrderedCollection r args f = slots_made ordered_collection_class (elements p s r) refl
+  sequences_built SequenceMessage.AsArray r args f = slots_made array_class (elements p s r) (literal array_class refl refl)
+  sequences_built SequenceMessage.AsOrderedCollection r args f = slots_made ordered_collection_class (elements p s r) (literal ordered_collection_class refl refl)
   sequences_built SequenceMessage.AtPut r args f = put_built r (first args) (second args) f
   sequences_built m r args f = record { built = tt }
 
@@ -444,8 +456,8 @@ module _ (p : Program) (known : KnowsBuilt p) (s : Store) (h : BuiltStore p s) w
       indexed_built (second args) (length (object_at n s).slots + 1) (λ j. Makes (with_elements s n (insert (object_at n s).slots j (first args))).cells (with_elements s n (insert (object_at n s).slots j (first args))).store (first args))
       (λ j. grown_built n (eqb-true (object_at n s).class ordered_collection_class f) (insert (object_at n s).slots j (first args)) (first args))
   ordered_built CollectionMessage.RemoveAtIndex n args f = indexed_built (first args) (length (object_at n s).slots) (λ j. Changes (without_element s n j) (get_or (object_at n s).slots j Nil)) (λ j. less_built n (eqb-true (object_at n s).class ordered_collection_class f) j)
-  ordered_built CollectionMessage.Keys n args f = slots_made array_class (firsts (object_at n s).slots) refl
-  ordered_built CollectionMessage.Values n args f = slots_made array_class (seconds (object_at n s).slots) refl
+  ordered_built CollectionMessage.Keys n args f = slots_made array_class (firsts (object_at n s).slots) (literal array_class refl refl)
+  ordered_built CollectionMessage.Values n args f = slots_made array_class (seconds (object_at n s).slots) (literal array_class refl refl)
   ordered_built m n args f = record { built = tt }
 
   changed_built : (m : CollectionMessage) (r : Value) (args : List Value) → takes_collection m (level_of s r).class ≡ true → Builds (changed p s m r args)
@@ -453,17 +465,17 @@ module _ (p : Program) (known : KnowsBuilt p) (s : Store) (h : BuiltStore p s) w
   changed_built m (Object n) args f = ordered_built m n args f
   changed_built m r args f = record { built = tt }
 
-  empty_made : (r : Value) → is_loose (level_of s r).class ≡ true → Builds (makes_slots (class_number r) [] s)
+  empty_made : (r : Value) → Loose (level_of s r).class → Builds (makes_slots (class_number r) [] s)
   unfolding level_of
   empty_made (Class c) f = slots_made c [] f
-  empty_made r f = slots_made 0 [] refl
+  empty_made r f = slots_made 0 [] (literal 0 refl refl)
 
-  pub collections_built : (m : CollectionMessage) (r : Value) (args : List Value) → takes_collection m (level_of s r).class ≡ true → collection_fits m (level_of s r).class ≡ true → Builds (collection_action p s m r args)
+  pub collections_built : (m : CollectionMessage) (r : Value) (args : List Value) → takes_collection m (level_of s r).class ≡ true → CollectionFits p m (level_of s r).class → Builds (collection_action p s m r args)
   unfolding collection_action
-  collections_built CollectionMessage.NewArray r args f g = sized_by (first args) (λ n. makes_slots array_class (replicate n Nil) s) (λ n. slots_made array_class (replicate n Nil) refl)
-  collections_built CollectionMessage.NewByteArray r args f g = sized_by (first args) (λ n. makes_bytes byte_array_class (replicate n 0) s) (λ n. bytes_made byte_array_class (replicate n 0) refl)
-  collections_built CollectionMessage.With r args f g = slots_made array_class args refl
-  collections_built CollectionMessage.WithAll r args f g = if_built (is_collection s (first args)) (makes_slots array_class (elements p s (first args)) s) (Fails trouble.CollectionExpected) (slots_made array_class (elements p s (first args)) refl) (fails trouble.CollectionExpected)
+  collections_built CollectionMessage.NewArray r args f g = sized_by (first args) (λ n. makes_slots array_class (replicate n Nil) s) (λ n. slots_made array_class (replicate n Nil) (literal array_class refl refl))
+  collections_built CollectionMessage.NewByteArray r args f g = sized_by (first args) (λ n. makes_bytes byte_array_class (replicate n 0) s) (λ n. bytes_made byte_array_class (replicate n 0) (literal byte_array_class refl refl))
+  collections_built CollectionMessage.With r args f g = slots_made array_class args (literal array_class refl refl)
+  collections_built CollectionMessage.WithAll r args f g = if_built (is_collection s (first args)) (makes_slots array_class (elements p s (first args)) s) (Fails trouble.CollectionExpected) (slots_made array_class (elements p s (first args)) (literal array_class refl refl)) (fails trouble.CollectionExpected)
   collections_built CollectionMessage.NewEmpty r args f g = empty_made r g
   collections_built CollectionMessage.KeyValue r args f g = association_made (first args) (second args)
   collections_built m r args f g = changed_built m r args f

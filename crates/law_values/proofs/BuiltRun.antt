@@ -108,11 +108,11 @@ module _ (p : Program) (literals : KnowsLiterals p) (classes : KnowsClasses p) (
 
     leaves_built : (home : Bool) (v : Value) → MachBuilt p (flat_leaves p codes room home v (record x { operands = but_last x.operands }) acts st)
     leaves_built true v = h
-    leaves_built false v = (h, refl)
+    leaves_built false v = (h, (refl, omega (arith, known.classes)))
 
     block_built : (code cells : ℕ) → MachBuilt p (Run (flat_given p codes room (next_object st.store) x) acts (record st { store = with_flat_block p codes room x code st.store; cells = cells }))
     unfolding with_flat_block
-    block_built code cells = built_block p known.blocks st.store _ h
+    block_built code cells = built_block p known.blocks (omega (arith, known.classes)) st.store _ h
 
     instruction_built : (i : Instruction) → Written p x.code i → MachBuilt p (flat_instruction p codes room i x acts st)
     instruction_built (instruction.PushConstant c) w = h

@@ -1,5 +1,5 @@
 -- What a send does at once leaves objects built.
-use Rattle.std.proofs.Common.{◌≡◌, ℕ, zero, suc, ◌^◌, ◌<◌, ◌≤ℤ◌, ◌==◌, unsigned_abs, replicate, ℤ, pos, negsuc, int_le, nat_abs, nat_eq, nat_le, nat_lt, ◌&&◌, length, List, [], ◌∷◌, ◌++◌, Option, Some, None, Bool, true, false, eqb-true, true≢false, refl, sym, ap, arith, if◌then◌else◌}
+use Rattle.std.proofs.Common.{◌≡◌, get_or, ℕ, zero, suc, ◌^◌, ◌<◌, ◌≤ℤ◌, ◌==◌, unsigned_abs, replicate, ℤ, pos, negsuc, int_le, nat_abs, nat_eq, nat_le, nat_lt, ◌&&◌, length, List, [], ◌∷◌, ◌++◌, Option, Some, None, Bool, true, false, eqb-true, true≢false, refl, sym, ap, arith, if◌then◌else◌}
 use Rattle.std.proofs.lemmas.Bool.{ne_eqb}
 use Rattle.std.proofs.lemmas.Int.{ints}
 use Rattle.object_heap.specs.declared.value.Value.{Value}
@@ -8,7 +8,7 @@ use Rattle.object_heap.specs.declared.value.Closure.{Closure}
 use Rattle.object_heap.specs.declared.trouble.Trouble.{Trouble}
 use Rattle.object_heap.specs.declared.trouble.Trouble.TheVariants as trouble
 use Rattle.object_heap.specs.Store.{Store, object_at}
-use Rattle.st_code.specs.Program.{Program, class_at, body_at}
+use Rattle.st_code.specs.Program.{ClassRow, Program, class_at, body_at}
 use Rattle.st_code.specs.BuiltIns.{array_class, exception_set_class, fraction_class, interval_class}
 use Rattle.st_code.specs.Lookup.{Found, UserMethod, BuiltIn, level_of, lookup, super_lookup, is_plain, is_exception, fits}
 use Rattle.st_code.specs.Messages.{Row, Objects, Classes, Booleans, Numbers, Characters, Transcripts, Strings, Sequences, Collections, Blocks, Exceptions, Loops, Slots, BlockMessage, ExceptionMessage, LoopMessage, NumberMessage}
@@ -35,12 +35,22 @@ use Rattle.law_values.specs.BuiltObjects.{BuiltStore}
 use Rattle.law_values.specs.KnownBuilt.{KnowsBuilt}
 use Rattle.law_values.proofs.BuiltActions.{ActionBuilt}
 use Rattle.law_values.proofs.BuiltObjects.{is_bound, unbound_object, built_new, built_slot, new_fraction, new_interval}
-use Rattle.law_values.proofs.BuiltRows.{Builds, not_false, fails, if_built, slots_made, string_made, slot_set, objects_built, classes_built, booleans_built, characters_built, transcripts_built, strings_built, sequences_built, collections_built}
-use Rattle.law_values.proofs.BuiltTable.{is_open, is_loose, fits_row, found_fits, super_fits}
+use Rattle.law_values.proofs.BuiltRows.{Builds, not_false, fails, if_built, literal, slots_made, string_made, slot_set, objects_built, classes_built, booleans_built, characters_built, transcripts_built, strings_built, sequences_built, collections_built}
+use Rattle.law_values.proofs.BuiltTable.{none_class, is_open, is_loose, FitsRow, found_fits, super_fits}
+
+-- a class of the file is there
+in_list : (rows : List ClassRow) (class : ℕ) → (get_or rows class none_class).in_file ≡ true → class < length rows
+in_list [] class e = absurd (true≢false (sym e))
+in_list (r ∷ rows) zero e = omega arith
+in_list (r ∷ rows) (suc class) e = let l = in_list rows class e in omega (arith, l)
+
+there : (p : Program) (class : ℕ) → (class_at p class).in_file ≡ true → class < length p.classes
+unfolding class_at
+there p class e = in_list p.classes class e
 
 -- the classes of the file aren't fixed
-declared_loose : (p : Program) → KnowsCollections p → (class : ℕ) → (class_at p class).in_file ≡ true → is_loose class ≡ true
-declared_loose p knows class e = behind class (knows.declared class e)
+declared_loose : (p : Program) → KnowsCollections p → (class : ℕ) → (class_at p class).in_file ≡ true → (is_loose class ≡ true) × (class < length p.classes)
+declared_loose p knows class e = (behind class (knows.declared class e), there p class e)
   where
     apart : (a b : ℕ) → b < a → nat_eq a b ≡ false
     apart a b l = ne_eqb a b (λ e. let none : ⊥ = omega (arith, e, l) in none)
@@ -193,25 +203,25 @@ module _ (p : Program) (known : KnowsBuilt p) (s : Store) (h : BuiltStore p s) w
   nils zero = refl
   nils (suc n) = ap suc (nils n)
 
-  new_built : (r : Value) → is_open (level_of s r).class ≡ true → S (new_exception p s r)
+  new_built : (r : Value) → is_open (level_of s r).class ≡ true → (level_of s r).class < length p.classes → S (new_exception p s r)
   unfolding level_of makes_blank
-  new_built (Class c) f = record { built = built_new p s c (replicate (class_at p c).slots Nil) [] h (unbound_object p s _ (not_false (is_bound c) f) refl (λ e. nils (class_at p c).slots)) }
-  new_built r f = record { built = tt }
+  new_built (Class c) f l = record { built = built_new p s c (replicate (class_at p c).slots Nil) [] h (unbound_object p s _ (not_false (is_bound c) f) refl (λ e. nils (class_at p c).slots) l) }
+  new_built r f l = record { built = tt }
 
-  signal_built : (r : Value) (args : List Value) → is_open (level_of s r).class ≡ true → S (signal_new r args)
+  signal_built : (r : Value) (args : List Value) → is_open (level_of s r).class ≡ true → (level_of s r).class < length p.classes → S (signal_new r args)
   unfolding level_of
-  signal_built (Class c) args f = record { built = f }
-  signal_built r args f = record { built = tt }
+  signal_built (Class c) args f l = record { built = (f, l) }
+  signal_built r args f l = record { built = tt }
 
-  exceptions_built : (m : ExceptionMessage) (r : Value) (args : List Value) → is_open (level_of s r).class ≡ true → S (exception_action p s m r args)
+  exceptions_built : (m : ExceptionMessage) (r : Value) (args : List Value) → is_open (level_of s r).class ≡ true → (level_of s r).class < length p.classes → S (exception_action p s m r args)
   unfolding exception_action
-  exceptions_built ExceptionMessage.New r args f = new_built r f
-  exceptions_built ExceptionMessage.SignalNew r args f = signal_built r args f
-  exceptions_built ExceptionMessage.Join r args f =
+  exceptions_built ExceptionMessage.New r args f l = new_built r f l
+  exceptions_built ExceptionMessage.SignalNew r args f l = signal_built r args f l
+  exceptions_built ExceptionMessage.Join r args f l =
       if_built p known s h (is_plain p s r && is_plain p s (first args)) (makes_slots exception_set_class (selectors_of s r ++ selectors_of s (first args)) s) (Fails trouble.ExceptionSelectorExpected)
-      (slots_made p known s h exception_set_class (selectors_of s r ++ selectors_of s (first args)) refl) (fails p known s h trouble.ExceptionSelectorExpected)
-  exceptions_built ExceptionMessage.Handles r args f = handles_built r (first args)
-  exceptions_built m r args f = to_built m r args f
+      (slots_made p known s h exception_set_class (selectors_of s r ++ selectors_of s (first args)) (literal p known s h exception_set_class refl refl)) (fails p known s h trouble.ExceptionSelectorExpected)
+  exceptions_built ExceptionMessage.Handles r args f l = handles_built r (first args)
+  exceptions_built m r args f l = to_built m r args f
 
   -- ---- loops
 
@@ -249,7 +259,7 @@ module _ (p : Program) (known : KnowsBuilt p) (s : Store) (h : BuiltStore p s) w
   -- ---- rows and sends
 
   module _ (knows : KnowsCollections p) where
-    rows_built : (row : Row) (r : Value) (args : List Value) → takes row (level_of s r).class ≡ true → fits_row row (level_of s r).class ≡ true → S (row_action p s row r args)
+    rows_built : (row : Row) (r : Value) (args : List Value) → takes row (level_of s r).class ≡ true → FitsRow p row (level_of s r).class → S (row_action p s row r args)
     unfolding row_action block_action
     rows_built (Objects m) r args f g = objects_built p known s h (declared_loose p knows) m r args
     rows_built (Classes m) r args f g = classes_built p known s h (declared_loose p knows) m r args
@@ -261,7 +271,7 @@ module _ (p : Program) (known : KnowsBuilt p) (s : Store) (h : BuiltStore p s) w
     rows_built (Sequences m) r args f g = sequences_built p known s h m r args g
     rows_built (Collections m) r args f g = collections_built p known s h m r args f g
     rows_built (Blocks m) r args f g = blocks_by m r (closure_of s r) args
-    rows_built (Exceptions m) r args f g = exceptions_built m r args g
+    rows_built (Exceptions m) r args f g = exceptions_built m r args g.0 g.1
     rows_built (Loops m) r args f g = loops_built m r args
     rows_built (Slots slot) r args f g = record { built = tt }
 
@@ -270,7 +280,7 @@ module _ (p : Program) (known : KnowsBuilt p) (s : Store) (h : BuiltStore p s) w
     found_by (Some (BuiltIn row)) selector r args = row_action p s row r args
     found_by None selector r args = Misses selector r args
 
-    found_built : (o : Option Found) (selector : ℕ) (r : Value) (args : List Value) → ((row : Row) → o ≡ Some (BuiltIn row) → (takes row (level_of s r).class ≡ true) × (fits_row row (level_of s r).class ≡ true)) → ActionBuilt p (found_by o selector r args)
+    found_built : (o : Option Found) (selector : ℕ) (r : Value) (args : List Value) → ((row : Row) → o ≡ Some (BuiltIn row) → (takes row (level_of s r).class ≡ true) × (FitsRow p row (level_of s r).class)) → ActionBuilt p (found_by o selector r args)
     found_built (Some (UserMethod code)) selector r args f = tt
     found_built (Some (BuiltIn row)) selector r args f = (let x = f row refl in rows_built row r args x.0 x.1).built
     found_built None selector r args f = tt

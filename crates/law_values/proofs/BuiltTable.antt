@@ -1,6 +1,11 @@
 -- What a lookup finds, as far as the slots of built-in objects go, is for its receiver's class.
-use Rattle.std.proofs.Common.{◌≡◌, ℕ, inl, inr, nat_eq, nat_le, not, ◌&&◌, ◌||◌, drop, List, [], ◌∷◌, Option, Some, None, Bool, true, false, eqb-true, true≢false, refl, sym, ◌∙◌, subst}
+use Rattle.std.proofs.Common.{◌≡◌, ◌<◌, ◌≤◌, length, nat_lt, ap, arith, ℕ, inl, inr, nat_eq, nat_le, not, ◌&&◌, ◌||◌, drop, List, [], ◌∷◌, Option, Some, None, Bool, true, false, eqb-true, true≢false, refl, sym, ◌∙◌, subst}
 use Rattle.std.specs.Option.{option_map}
+use Rattle.std.proofs.lemmas.Bool.{ltb-true, ltb-false, leb-true, ne_eqb}
+use Rattle.std.proofs.lemmas.List.{get_or_past}
+use Rattle.st_code.specs.Program.{ClassRow, NoIndexes, class_at}
+use Rattle.st_code.specs.Lookup.{some_superclasses}
+use Rattle.st_code.specs.BuiltIns.{exception_set_class}
 use Rattle.object_heap.specs.declared.value.Value.{Value}
 use Rattle.object_heap.specs.Store.{Store}
 use Rattle.st_code.specs.Texts.{Text, same_text}
@@ -16,6 +21,10 @@ use Rattle.st_sound.proofs.TableRows.{FailsAll, Other, fails_walk}
 use Rattle.law_values.specs.KnownBuilt.{Chain, fraction_chain, block_chain, message_chain, association_chain, exception_chains, chains, Stand, KnowsBuilt}
 use Rattle.law_values.specs.BuiltObjects.{is_one_of}
 use Rattle.law_values.proofs.BuiltObjects.{is_bound, is_fixed}
+
+-- what stands for a class that isn't there
+abbrev pub none_class : ClassRow
+none_class = record { name = []; superclass = None; in_file = false; indexed = NoIndexes; slots = 0; class_slots = 0 }
 
 -- ---- receivers
 
@@ -40,16 +49,16 @@ sequence_fits SequenceMessage.Reverse class = is_wide class
 sequence_fits SequenceMessage.AtPut class = is_open class
 sequence_fits m class = true
 
-abbrev pub collection_fits : CollectionMessage → ℕ → Bool
-collection_fits CollectionMessage.NewEmpty class = is_loose class
-collection_fits m class = true
+abbrev pub CollectionFits : Program → CollectionMessage → ℕ → Type 0
+CollectionFits p CollectionMessage.NewEmpty class = (is_loose class ≡ true) × (class < length p.classes)
+CollectionFits p m class = Unit {0}
 
 -- the row may be found by receivers of this class, or by the class itself
-abbrev pub fits_row : Row → ℕ → Bool
-fits_row (Sequences m) class = sequence_fits m class
-fits_row (Collections m) class = collection_fits m class
-fits_row (Exceptions m) class = is_open class
-fits_row row class = true
+abbrev pub FitsRow : Program → Row → ℕ → Type 0
+FitsRow p (Sequences m) class = sequence_fits m class ≡ true
+FitsRow p (Collections m) class = CollectionFits p m class
+FitsRow p (Exceptions m) class = (is_open class ≡ true) × (class < length p.classes)
+FitsRow p row class = Unit {0}
 
 -- ---- where the table has a row
 
@@ -60,7 +69,7 @@ abbrev is_writable : ℕ → Bool
 is_writable c = nat_eq c string_class || nat_eq c array_class || nat_eq c byte_array_class || nat_eq c ordered_collection_class
 
 abbrev is_exception : ℕ → Bool
-is_exception c = nat_le exception_class c
+is_exception c = nat_le exception_class c && nat_le c exception_set_class
 
 abbrev sequence_at : SequenceMessage → ℕ → Bool
 sequence_at SequenceMessage.Join c = is_sequence c
@@ -210,39 +219,66 @@ module _ (p : Program) (knows : KnowsCollections p) (known : KnowsBuilt p) where
   wide_from : (from m : Level) → OnWalk (walk p from) m → is_sequence m.class ≡ true → is_wide from.class ≡ true
   wide_from from m h e = avoids (λ c. is_sequence c) (record { classes = refl; metaclasses = refl; object = refl }) chains known.above ((refl, (refl, tt)), ((refl, (refl, tt)), ((refl, (refl, tt)), ((refl, (refl, tt)), ((refl, (refl, tt)), ((refl, (refl, (refl, tt))), ((refl, (refl, (refl, (refl, tt)))), ((refl, (refl, (refl, (refl, tt)))), ((refl, (refl, (refl, tt))), ((refl, (refl, (refl, (refl, tt)))), tt)))))))))) from m h e
 
-  sequences_from : (x : SequenceMessage) (from m : Level) → OnWalk (walk p from) m → stands_at (Sequences x) m.side m.class ≡ true → fits_row (Sequences x) from.class ≡ true
+  -- a class that the program doesn't have stands alone
+  alone : (c : ℕ) → length p.classes ≤ c → superclasses p c ≡ c ∷ []
+  unfolding superclasses class_at
+  alone c l = ap (λ (r : ClassRow). c ∷ elim r.superclass [ None ↦ [] | Some above ↦ some_superclasses p c above ]) (get_or_past p.classes c none_class l)
+
+  -- so a class is there, where a level of its walk passes a test that no late class does
+  in_range : (test : ℕ → Bool) → Other test → ((c : ℕ) → exception_set_class < c → test c ≡ false) → (from m : Level) → OnWalk (walk p from) m → test m.class ≡ true → from.class < length p.classes
+  in_range test other late from m h e = by (nat_lt from.class (length p.classes)) refl
+    where
+      by : (b : Bool) → nat_lt from.class (length p.classes) ≡ b → from.class < length p.classes
+      by true k = ltb-true from.class (length p.classes) k
+      by false k =
+          let l = ltb-false from.class (length p.classes) k in
+          let far : exception_set_class < from.class = omega (arith, l, known.classes) in
+          absurd (true≢false (sym e ∙ fails_walk p knows test other from m (subst (λ xs. FailsAll test xs) (sym (alone from.class l)) (late from.class far, tt)) h))
+
+  grows_low : (c : ℕ) → exception_set_class < c → grows c ≡ false
+  grows_low c l = rw (ne_eqb c 13 (λ e. let none : ⊥ = omega (arith, e, l) in none), ne_eqb c 14 (λ e. let none : ⊥ = omega (arith, e, l) in none), ne_eqb c 15 (λ e. let none : ⊥ = omega (arith, e, l) in none)) refl
+
+  exception_low : (c : ℕ) → exception_set_class < c → is_exception c ≡ false
+  exception_low c l = by (nat_le exception_class c) (nat_le c exception_set_class) refl
+    where
+      by : (a b : Bool) → nat_le c exception_set_class ≡ b → (a && b) ≡ false
+      by true true e = let k = leb-true c exception_set_class e in absurd (omega (arith, k, l))
+      by true false e = refl
+      by false b e = refl
+
+  sequences_from : (x : SequenceMessage) (from m : Level) → OnWalk (walk p from) m → stands_at (Sequences x) m.side m.class ≡ true → FitsRow p (Sequences x) from.class
   sequences_from SequenceMessage.Join from m h e = wide_from from m h e
   sequences_from SequenceMessage.CopyFromTo from m h e = wide_from from m h e
   sequences_from SequenceMessage.Reverse from m h e = wide_from from m h e
   sequences_from SequenceMessage.AtPut from m h e = open_from (λ c. is_writable c) (record { classes = refl; metaclasses = refl; object = refl }) ((refl, (refl, tt)), ((refl, (refl, (refl, tt))), ((refl, (refl, tt)), ((refl, (refl, tt)), tt)))) from m h e
   sequences_from x from m h e = refl
 
-  collections_from : (x : CollectionMessage) (from m : Level) → OnWalk (walk p from) m → stands_at (Collections x) m.side m.class ≡ true → fits_row (Collections x) from.class ≡ true
-  collections_from CollectionMessage.NewEmpty from m h e = loose_from (λ c. grows c) (record { classes = refl; metaclasses = refl; object = refl }) ((refl, (refl, tt)), ((refl, (refl, (refl, tt))), ((refl, (refl, tt)), ((refl, (refl, tt)), ((refl, (refl, tt)), ((refl, (refl, tt)), ((refl, (refl, (refl, tt))), ((refl, (refl, (refl, (refl, tt)))), ((refl, (refl, (refl, (refl, tt)))), ((refl, (refl, (refl, tt))), ((refl, (refl, (refl, (refl, tt)))), tt))))))))))) from m h e
-  collections_from x from m h e = refl
+  collections_from : (x : CollectionMessage) (from m : Level) → OnWalk (walk p from) m → stands_at (Collections x) m.side m.class ≡ true → FitsRow p (Collections x) from.class
+  collections_from CollectionMessage.NewEmpty from m h e = (loose_from (λ c. grows c) (record { classes = refl; metaclasses = refl; object = refl }) ((refl, (refl, tt)), ((refl, (refl, (refl, tt))), ((refl, (refl, tt)), ((refl, (refl, tt)), ((refl, (refl, tt)), ((refl, (refl, tt)), ((refl, (refl, (refl, tt))), ((refl, (refl, (refl, (refl, tt)))), ((refl, (refl, (refl, (refl, tt)))), ((refl, (refl, (refl, tt))), ((refl, (refl, (refl, (refl, tt)))), tt))))))))))) from m h e, in_range (λ c. grows c) (record { classes = refl; metaclasses = refl; object = refl }) grows_low from m h e)
+  collections_from x from m h e = tt
 
-  row_from : (row : Row) (from m : Level) → OnWalk (walk p from) m → stands_at row m.side m.class ≡ true → fits_row row from.class ≡ true
-  row_from (Objects x) from m h e = refl
-  row_from (Classes x) from m h e = refl
-  row_from (Booleans x) from m h e = refl
-  row_from (Numbers x) from m h e = refl
-  row_from (Characters x) from m h e = refl
-  row_from (Transcripts x) from m h e = refl
-  row_from (Strings x) from m h e = refl
+  row_from : (row : Row) (from m : Level) → OnWalk (walk p from) m → stands_at row m.side m.class ≡ true → FitsRow p row from.class
+  row_from (Objects x) from m h e = tt
+  row_from (Classes x) from m h e = tt
+  row_from (Booleans x) from m h e = tt
+  row_from (Numbers x) from m h e = tt
+  row_from (Characters x) from m h e = tt
+  row_from (Transcripts x) from m h e = tt
+  row_from (Strings x) from m h e = tt
   row_from (Sequences x) from m h e = sequences_from x from m h e
   row_from (Collections x) from m h e = collections_from x from m h e
-  row_from (Blocks x) from m h e = refl
-  row_from (Exceptions x) from m h e = open_from (λ c. is_exception c) (record { classes = refl; metaclasses = refl; object = refl }) ((refl, (refl, tt)), ((refl, (refl, (refl, tt))), ((refl, (refl, tt)), ((refl, (refl, tt)), tt)))) from m h e
-  row_from (Loops x) from m h e = refl
-  row_from (Slots x) from m h e = refl
+  row_from (Blocks x) from m h e = tt
+  row_from (Exceptions x) from m h e = (open_from (λ c. is_exception c) (record { classes = refl; metaclasses = refl; object = refl }) ((refl, (refl, tt)), ((refl, (refl, (refl, tt))), ((refl, (refl, tt)), ((refl, (refl, tt)), tt)))) from m h e, in_range (λ c. is_exception c) (record { classes = refl; metaclasses = refl; object = refl }) exception_low from m h e)
+  row_from (Loops x) from m h e = tt
+  row_from (Slots x) from m h e = tt
 
-  pub found_fits : (from : Level) (selector : ℕ) (row : Row) → lookup p from selector ≡ Some (BuiltIn row) → fits_row row from.class ≡ true
+  pub found_fits : (from : Level) (selector : ℕ) (row : Row) → lookup p from selector ≡ Some (BuiltIn row) → FitsRow p row from.class
   unfolding lookup
   found_fits from selector row e =
       let f : FoundThere (walk p from) (Some (BuiltIn row)) = subst (λ o. FoundThere (walk p from) o) e (found_there p (walk p from) selector) in
       row_from row from f.0 f.1 f.2
 
-  pub super_fits : KnowsClasses p → (s : Store) (class r : Value) (selector : ℕ) (row : Row) → IsOf p s r class → super_lookup p class selector ≡ Some (BuiltIn row) → fits_row row (level_of s r).class ≡ true
+  pub super_fits : KnowsClasses p → (s : Store) (class r : Value) (selector : ℕ) (row : Row) → IsOf p s r class → super_lookup p class selector ≡ Some (BuiltIn row) → FitsRow p row (level_of s r).class
   unfolding super_lookup
   super_fits classes s class r selector row g e =
       let levels = drop 1 (walk p (class_level class)) in

@@ -19,6 +19,7 @@ use Rattle.st_sound.specs.Receivers.{is_listed, takes_loop}
 use Rattle.st_sound.specs.SoundActions.{LoopStands}
 use Rattle.st_sound.proofs.Later.{Later, new_later, elements_later, takes_later}
 use Rattle.law_values.specs.BuiltObjects.{BuiltStore}
+use Rattle.law_values.specs.KnownBuilt.{KnowsBuilt}
 use Rattle.law_values.proofs.BuiltActions.{VisitBuilt}
 use Rattle.law_values.proofs.BuiltObjects.{is_fixed, unbound, free_object, built_new, built_slot, built_grown, built_removed, built_pair_removed}
 
@@ -76,7 +77,7 @@ later_loop s t m l e g = record { message = g.message; receiver = takes_later s 
 moved : (s : Store) (m : LoopMessage) (l l' : LoopState) → l'.message ≡ l.message → l'.receiver ≡ l.receiver → Loop s m l → Keeps s m l' → Loop s m l'
 moved s m l l' e f g k = record { message = e ∙ g.message; receiver = subst (λ r. takes_loop m (level_of s r).class ≡ true) (sym f) g.receiver; kept = k }
 
-module _ (p : Program) (s : Store) (h : BuiltStore p s) where
+module _ (p : Program) (known : KnowsBuilt p) (s : Store) (h : BuiltStore p s) where
   finishes : (v : Value) → Visits p (Finishes v)
   finishes v = record { built = tt }
 
@@ -85,20 +86,20 @@ module _ (p : Program) (s : Store) (h : BuiltStore p s) where
   if_visits false v w g i = i
 
   -- the items of the collection made as a new object
-  turned : (class : ℕ) (l : LoopState) → is_fixed class ≡ false → Visits p (turned_into class s l)
-  turned class l f =
+  turned : (class : ℕ) (l : LoopState) → is_fixed class ≡ false → class < length p.classes → Visits p (turned_into class s l)
+  turned class l f k =
       let items = slots_of s l.made in
       if_visits (nat_eq class string_class) (Charges (object_charge 0 (length items)) (with_new string_class [] (map byte_of items) s) (Finishes (next_object s))) (Charges (1 + length items) (with_new class items [] s) (Finishes (next_object s)))
-      record { built = (built_new p s string_class [] (map byte_of items) h (free_object p s _ refl refl), tt) }
-      record { built = (built_new p s class items [] h (free_object p s _ f refl), tt) }
+      record { built = (built_new p s string_class [] (map byte_of items) h (free_object p s _ refl refl (omega (arith, known.classes))), tt) }
+      record { built = (built_new p s class items [] h (free_object p s _ f refl k), tt) }
 
   gives_collected : (l : LoopState) → Visits p (collected s l)
-  gives_collected l = if_visits (keeps_made s l.receiver) (Finishes l.made) (turned_into array_class s l) (finishes l.made) (turned array_class l refl)
+  gives_collected l = if_visits (keeps_made s l.receiver) (Finishes l.made) (turned_into array_class s l) (finishes l.made) (turned array_class l refl (omega (arith, known.classes)))
 
   gives_selected : (l : LoopState) → Visits p (selected s l)
   gives_selected l =
-      if_visits (nat_eq (species s l.receiver) string_class) (turned_into string_class s l) (if is_a s set_class l.receiver then turned_into set_class s l else collected s l) (turned string_class l refl)
-      (if_visits (is_a s set_class l.receiver) (turned_into set_class s l) (collected s l) (turned set_class l refl) (gives_collected l))
+      if_visits (nat_eq (species s l.receiver) string_class) (turned_into string_class s l) (if is_a s set_class l.receiver then turned_into set_class s l else collected s l) (turned string_class l refl (omega (arith, known.classes)))
+      (if_visits (is_a s set_class l.receiver) (turned_into set_class s l) (collected s l) (turned set_class l refl (omega (arith, known.classes))) (gives_collected l))
 
   -- elements at the end of a collection, and then the rest
   appended_built : (r : Value) (slots : List Value) (rest : Store → Visit) → ((n : ℕ) → r ≡ Object n → BuiltStore p (with_elements s n slots).store) → ((t : Store) → Later s t → BuiltStore p t → Visits p (rest t)) → Later s s → Visits p (appended s r slots rest)
@@ -211,26 +212,26 @@ module _ (p : Program) (s : Store) (h : BuiltStore p s) where
   pub visits_here : (m : LoopMessage) (l : LoopState) → Loop s m l → Visits p (visit p s l)
   visits_here m l g = subst (λ x. Visits p (visit_at p s x l)) (sym g.message) (visits m l g)
 
-module _ (p : Program) (s : Store) (h : BuiltStore p s) where
+module _ (p : Program) (known : KnowsBuilt p) (s : Store) (h : BuiltStore p s) where
   -- ---- what a value brings
 
   -- at another place of the same loop
   goes_on : (m : LoopMessage) (l l' : LoopState) → l'.message ≡ l.message → l'.receiver ≡ l.receiver → Loop s m l → Keeps s m l' → Visits p (visit p s l')
-  goes_on m l l' e f g k = visits_here p s h m l' (moved s m l l' e f g k)
+  goes_on m l l' e f g k = visits_here p known s h m l' (moved s m l l' e f g k)
 
   counted : (m : LoopMessage) (l : LoopState) (i : ℤ) → Loop s m l → Keeps s m (at_index i l) → Visits p (count_visit (at_index i l))
   counted m l i g k =
       let l' = at_index i l in
-      if_visits p s h (is_past (step_of l.message l.arguments) i (integer_of (first l.arguments))) (Finishes l.receiver) (Applies l' (block_of l.message l.arguments) (Integer i ∷ [])) (finishes p s h l.receiver) (applies p s h m l g l' (block_of l.message l.arguments) (Integer i ∷ []) refl refl k)
+      if_visits p known s h (is_past (step_of l.message l.arguments) i (integer_of (first l.arguments))) (Finishes l.receiver) (Applies l' (block_of l.message l.arguments) (Integer i ∷ [])) (finishes p known s h l.receiver) (applies p known s h m l g l' (block_of l.message l.arguments) (Integer i ∷ []) refl refl k)
 
   goes_while : (m : LoopMessage) (l : LoopState) (args : List Value) → Loop s m l → Keeps s m l → Keeps s m (beside l) → Visits p (while_argument l args)
-  goes_while m l [] g k j = applies p s h m l g l l.receiver [] refl refl k
-  goes_while m l (block ∷ args) g k j = applies p s h m l g (beside l) block [] refl refl j
+  goes_while m l [] g k j = applies p known s h m l g l l.receiver [] refl refl k
+  goes_while m l (block ∷ args) g k j = applies p known s h m l g (beside l) block [] refl refl j
 
   while_by : (m : LoopMessage) (l : LoopState) (goes : Bool) → Loop s m l → Keeps s m l → Keeps s m (beside l) → Keeps s m (record l { aside = false }) → Visits p (while_given l goes)
   while_by m l goes g k j i =
-      if_visits p s h l.aside (Applies (record l { aside = false }) l.receiver []) (if goes then while_argument l l.arguments else Finishes Nil) (applies p s h m l g (record l { aside = false }) l.receiver [] refl refl i)
-      (if_visits p s h goes (while_argument l l.arguments) (Finishes Nil) (goes_while m l l.arguments g k j) (finishes p s h Nil))
+      if_visits p known s h l.aside (Applies (record l { aside = false }) l.receiver []) (if goes then while_argument l l.arguments else Finishes Nil) (applies p known s h m l g (record l { aside = false }) l.receiver [] refl refl i)
+      (if_visits p known s h goes (while_argument l l.arguments) (Finishes Nil) (goes_while m l l.arguments g k j) (finishes p known s h Nil))
 
   -- the next index, where nothing is kept that speaks of it
   module _ (m : LoopMessage) (l : LoopState) (g : Loop s m l) (k : Keeps s m (further l)) where
@@ -238,16 +239,16 @@ module _ (p : Program) (s : Store) (h : BuiltStore p s) where
     next = goes_on m l (further l) refl refl g k
 
     either : (b : Bool) (v : Visit) → Visits p v → Visits p (if b then v else visit p s (further l))
-    either b v a = if_visits p s h b v (visit p s (further l)) a next
+    either b v a = if_visits p known s h b v (visit p s (further l)) a next
 
     or_next : (b : Bool) (v : Visit) → Visits p v → Visits p (if b then visit p s (further l) else v)
-    or_next b v a = if_visits p s h b (visit p s (further l)) v next a
+    or_next b v a = if_visits p known s h b (visit p s (further l)) v next a
 
     found : (v : Value) (w : Visit) → Visits p w → Visits p (matched p s l v w)
     found v w a = either (is_true v && is_within p s l) w a
 
   answer : (l : LoopState) (v : Value) (w : Visit) → Visits p w → Visits p (answered l v w)
-  answer l v w a = if_visits p s h l.aside (Finishes v) w (finishes p s h v) a
+  answer l v w a = if_visits p known s h l.aside (Finishes v) w (finishes p known s h v) a
 
   -- ---- elements taken out, and values put
 
@@ -311,19 +312,19 @@ module _ (p : Program) (s : Store) (h : BuiltStore p s) where
   puts l v e = record { built = (value_set l.receiver (2 * place l - 1) v e, tt) }
 
   puts_or_answers : (l : LoopState) (v : Value) → nat_eq (level_of s l.receiver).class dictionary_class ≡ true → Visits p (pair_or_answer s l v)
-  puts_or_answers l v e = if_visits p s h l.aside (with_pair s l.receiver (first l.arguments) v v) (Finishes v) (pair_added p s h l.receiver (first l.arguments) v v e) (finishes p s h v)
+  puts_or_answers l v e = if_visits p known s h l.aside (with_pair s l.receiver (first l.arguments) v v) (Finishes v) (pair_added p known s h l.receiver (first l.arguments) v v e) (finishes p known s h v)
 
   -- ---- the collection that a loop makes
 
   made_free : (made : Value) → Gathers s made → (n : ℕ) (slots : List Value) → made ≡ Object n → BuiltStore p (with_elements s n slots).store
   made_free made g n slots e =
       let k : Gathers s (Object n) = subst (λ x. Gathers s x) e g in
-      free_grown p s h n ordered_collection_class slots k.1 refl
+      free_grown p known s h n ordered_collection_class slots k.1 refl
 
   more_made : (m : LoopMessage) (l : LoopState) (v : Value) → Loop s m l → Gathers s l.made → ((t : Store) → Later s t → Keeps t m (further l)) → Visits p (added s l v (λ s'. visit p s' (further l)))
   more_made m l v g k j =
-      appended_built p s h l.made (slots_of s l.made ++ v ∷ []) (λ s'. visit p s' (further l)) (λ n e. made_free l.made k n (slots_of s l.made ++ v ∷ []) e)
-      (λ t i x. let y = later_loop s t m l i g in visits_here p t x m (further l) (moved t m l (further l) refl refl y (j t i))) (itself p s h)
+      appended_built p known s h l.made (slots_of s l.made ++ v ∷ []) (λ s'. visit p s' (further l)) (λ n e. made_free l.made k n (slots_of s l.made ++ v ∷ []) e)
+      (λ t i x. let y = later_loop s t m l i g in visits_here p known t x m (further l) (moved t m l (further l) refl refl y (j t i))) (itself p known s h)
 
   gives : (m : LoopMessage) (l : LoopState) (v : Value) → Loop s m l → Visits p (given_at p s m l v)
   unfolding given_at
@@ -334,31 +335,31 @@ module _ (p : Program) (s : Store) (h : BuiltStore p s) where
   gives LoopMessage.DoSeparatedBy l v g = either LoopMessage.DoSeparatedBy l g tt l.aside (visit p s l) (goes_on LoopMessage.DoSeparatedBy l l refl refl g tt)
   gives LoopMessage.ReverseDo l v g = goes_on LoopMessage.ReverseDo l (downwards p s l) refl refl g tt
   gives LoopMessage.InjectInto l v g = goes_on LoopMessage.InjectInto l (made_to v (further l)) refl refl g tt
-  gives LoopMessage.Detect l v g = answer l v _ (either LoopMessage.Detect l g tt (is_true v) (Finishes l.visited) (finishes p s h l.visited))
-  gives LoopMessage.DetectIfNone l v g = answer l v _ (either LoopMessage.DetectIfNone l g tt (is_true v) (Finishes l.visited) (finishes p s h l.visited))
-  gives LoopMessage.AnySatisfy l v g = either LoopMessage.AnySatisfy l g tt (is_true v) (Finishes True) (finishes p s h True)
-  gives LoopMessage.AllSatisfy l v g = or_next LoopMessage.AllSatisfy l g tt (is_true v) (Finishes False) (finishes p s h False)
+  gives LoopMessage.Detect l v g = answer l v _ (either LoopMessage.Detect l g tt (is_true v) (Finishes l.visited) (finishes p known s h l.visited))
+  gives LoopMessage.DetectIfNone l v g = answer l v _ (either LoopMessage.DetectIfNone l g tt (is_true v) (Finishes l.visited) (finishes p known s h l.visited))
+  gives LoopMessage.AnySatisfy l v g = either LoopMessage.AnySatisfy l g tt (is_true v) (Finishes True) (finishes p known s h True)
+  gives LoopMessage.AllSatisfy l v g = or_next LoopMessage.AllSatisfy l g tt (is_true v) (Finishes False) (finishes p known s h False)
   gives LoopMessage.Collect l v g = more_made LoopMessage.Collect l v g g.kept (λ t i. keeps_later s t i LoopMessage.Collect l g.kept)
   gives LoopMessage.Select l v g = either LoopMessage.Select l g g.kept (is_true v) (added s l l.visited (λ s'. visit p s' (further l))) (more_made LoopMessage.Select l l.visited g g.kept (λ t i. keeps_later s t i LoopMessage.Select l g.kept))
   gives LoopMessage.Reject l v g = or_next LoopMessage.Reject l g g.kept (is_true v) (added s l l.visited (λ s'. visit p s' (further l))) (more_made LoopMessage.Reject l l.visited g g.kept (λ t i. keeps_later s t i LoopMessage.Reject l g.kept))
-  gives LoopMessage.Includes l v g = found LoopMessage.Includes l g tt v (Finishes True) (finishes p s h True)
+  gives LoopMessage.Includes l v g = found LoopMessage.Includes l g tt v (Finishes True) (finishes p known s h True)
   gives LoopMessage.OccurrencesOf l v g =
       let one = made_to (Integer (integer_of l.made +ℤ pos 1)) (further l) in
       found LoopMessage.OccurrencesOf l g tt v (visit p s one) (goes_on LoopMessage.OccurrencesOf l one refl refl g tt)
-  gives LoopMessage.IndexOf l v g = found LoopMessage.IndexOf l g tt v (Finishes (Integer l.index)) (finishes p s h (Integer l.index))
-  gives LoopMessage.AddToSet l v g = found LoopMessage.AddToSet l g tt v (Finishes (first l.arguments)) (finishes p s h (first l.arguments))
+  gives LoopMessage.IndexOf l v g = found LoopMessage.IndexOf l g tt v (Finishes (Integer l.index)) (finishes p known s h (Integer l.index))
+  gives LoopMessage.AddToSet l v g = found LoopMessage.AddToSet l g tt v (Finishes (first l.arguments)) (finishes p known s h (first l.arguments))
   gives LoopMessage.Remove l v g = answer l v _ (found LoopMessage.Remove l g tt v (removed p s l) (takes_out l g.receiver))
   gives LoopMessage.RemoveIfAbsent l v g = answer l v _ (found LoopMessage.RemoveIfAbsent l g tt v (removed p s l) (takes_out l g.receiver))
-  gives LoopMessage.At l v g = answer l v _ (found LoopMessage.At l g tt v (Finishes (value_at s l)) (finishes p s h (value_at s l)))
-  gives LoopMessage.AtIfAbsent l v g = answer l v _ (found LoopMessage.AtIfAbsent l g tt v (Finishes (value_at s l)) (finishes p s h (value_at s l)))
+  gives LoopMessage.At l v g = answer l v _ (found LoopMessage.At l g tt v (Finishes (value_at s l)) (finishes p known s h (value_at s l)))
+  gives LoopMessage.AtIfAbsent l v g = answer l v _ (found LoopMessage.AtIfAbsent l g tt v (Finishes (value_at s l)) (finishes p known s h (value_at s l)))
   gives LoopMessage.AtPut l v g = found LoopMessage.AtPut l g tt v (Charges 0 (set_value s l (second l.arguments)) (Finishes (second l.arguments))) (puts l (second l.arguments) g.receiver)
   gives LoopMessage.AtIfAbsentPut l v g =
-      if_visits p s h l.aside (pair_or_answer s l v) (matched p s l v (Finishes (value_at s l))) (puts_or_answers l v g.receiver) (found LoopMessage.AtIfAbsentPut l g tt v (Finishes (value_at s l)) (finishes p s h (value_at s l)))
-  gives LoopMessage.IncludesKey l v g = found LoopMessage.IncludesKey l g tt v (Finishes True) (finishes p s h True)
+      if_visits p known s h l.aside (pair_or_answer s l v) (matched p s l v (Finishes (value_at s l))) (puts_or_answers l v g.receiver) (found LoopMessage.AtIfAbsentPut l g tt v (Finishes (value_at s l)) (finishes p known s h (value_at s l)))
+  gives LoopMessage.IncludesKey l v g = found LoopMessage.IncludesKey l g tt v (Finishes True) (finishes p known s h True)
   gives LoopMessage.RemoveKey l v g = answer l v _ (found LoopMessage.RemoveKey l g tt v (pair_removed s l) (takes_pair l g.receiver))
   gives LoopMessage.RemoveKeyIfAbsent l v g = answer l v _ (found LoopMessage.RemoveKeyIfAbsent l g tt v (pair_removed s l) (takes_pair l g.receiver))
-  gives LoopMessage.EqualElements l v g = or_next LoopMessage.EqualElements l g tt (is_true v) (Finishes False) (finishes p s h False)
-  gives LoopMessage.NotEqual l v g = finishes p s h (boolean (not (is_true v)))
+  gives LoopMessage.EqualElements l v g = or_next LoopMessage.EqualElements l g tt (is_true v) (Finishes False) (finishes p known s h False)
+  gives LoopMessage.NotEqual l v g = finishes p known s h (boolean (not (is_true v)))
   gives m l v g = next _ l g tt
 
   pub next_visit_built : (l : LoopState) (v : Value) → LoopStands s l → Visits p (next_visit p s l v)
@@ -380,18 +381,18 @@ module _ (p : Program) (s : Store) (h : BuiltStore p s) where
   makes : (m : LoopMessage) (l : LoopState) → Loop s m l → (Gathers (with_new ordered_collection_class [] [] s) (next_object s) → Keeps (with_new ordered_collection_class [] [] s) m (made_to (next_object s) l)) → Visits p (with_made p s l)
   makes m l g k =
       let t = with_new ordered_collection_class [] [] s in
-      let x = built_new p s ordered_collection_class [] [] h (free_object p s _ refl refl) in
+      let x = built_new p s ordered_collection_class [] [] h (free_object p s _ refl refl (omega (arith, known.classes))) in
       let l' = made_to (next_object s) l in
       let loop : Loop t m l' = record { message = g.message; receiver = takes_later s t (new_later s ordered_collection_class [] []) m l.receiver g.receiver; kept = k made_stands } in
-      record { built = (x, (visits_here p t x m l' loop).built) }
+      record { built = (x, (visits_here p known t x m l' loop).built) }
 
   firsts : (m : LoopMessage) (l : LoopState) → Loop s m l → Visits p (first_of_message p s m l)
   unfolding first_of_message
   firsts LoopMessage.Collect l g = makes LoopMessage.Collect l g (λ k. k)
   firsts LoopMessage.Select l g = makes LoopMessage.Select l g (λ k. k)
   firsts LoopMessage.Reject l g = makes LoopMessage.Reject l g (λ k. k)
-  firsts LoopMessage.EqualElements l g = if_visits p s h (same_kind s l) (visit p s l) (Finishes False) (visits_here p s h LoopMessage.EqualElements l g) (finishes p s h False)
-  firsts m l g = visits_here p s h m l g
+  firsts LoopMessage.EqualElements l g = if_visits p known s h (same_kind s l) (visit p s l) (Finishes False) (visits_here p known s h LoopMessage.EqualElements l g) (finishes p known s h False)
+  firsts m l g = visits_here p known s h m l g
 
   pub first_visit_built : (l : LoopState) → LoopStands s l → Visits p (first_visit p s l)
   unfolding first_visit

@@ -1,7 +1,8 @@
 -- The programs that the units of a file are have what the law asks for.
-use Rattle.std.proofs.Common.{◌≡◌, ℕ, suc, map, get_or, List, [], ◌∷◌, ◌++◌, Option, Some, None, false, refl, ap, ◌∙◌}
+use Rattle.std.proofs.Common.{◌≡◌, ℕ, suc, ◌<◌, length, map, get_or, arith, List, [], ◌∷◌, ◌++◌, Option, Some, None, false, refl, ap, ◌∙◌}
+use Rattle.std.proofs.lemmas.List.{length-append, length-map}
 use Rattle.st_code.specs.BuiltIns.{built_in_classes, built_in_class_rows}
-use Rattle.st_code.specs.Definitions.{class_row, names_of, nothing_defined, defined_units, RunLimits, program_of}
+use Rattle.st_code.specs.Definitions.{built_in_names, class_row, names_of, nothing_defined, defined_units, RunLimits, program_of}
 use Rattle.st_code.specs.Literals.{trouble_literals}
 use Rattle.st_code.specs.Lookup.{some_superclasses, superclasses}
 use Rattle.st_code.specs.Named.{NamedUnit}
@@ -89,18 +90,33 @@ module _ (names : List Text) (units : List NamedUnit) (limits : RunLimits) (e : 
     ),
   )
 
+  rows_size : length built_in_class_rows ≡ 30
+  unfolding built_in_class_rows built_in_classes
+  rows_size = refl
+
+  there : 29 < length (program_of names units limits).classes
+  unfolding program_of
+  there =
+      let a = ap (λ cs. length (map class_row cs)) extended.begins in
+      let b : length (map class_row (built ++ extended.extra)) ≡ length (built ++ extended.extra) = length-map _ _ in
+      let c = length-append built extended.extra in
+      let d : length (map built_in_names built_in_class_rows) ≡ length built_in_class_rows = length-map _ _ in
+      let e = rows_size in
+      omega (arith, a, b, c, d, e)
+
   pub known : KnowsBuilt (program_of names units limits)
   unfolding program_of built_in_class_rows built_in_classes
   known =
       let D = defined_units (names_of names units) units nothing_defined in
       record {
+        classes = there;
         above = stand;
         fractions = slots_at 6 2 refl;
         intervals = slots_at 16 3 refl;
         associations = slots_at 17 2 refl;
         blocks = slots_at 18 0 refl;
         messages = slots_at 19 2 refl;
-        literals = record { each = built_of p _ (D.objects ++ trouble_literals) (plain_append D.objects trouble_literals (units_plain (names_of names units) units nothing_defined tt) troubles_plain) };
+        literals = record { each = built_of p _ there (D.objects ++ trouble_literals) (plain_append D.objects trouble_literals (units_plain (names_of names units) units nothing_defined tt) troubles_plain) };
       }
 
 pub programs_know_built : ProgramsKnowBuilt

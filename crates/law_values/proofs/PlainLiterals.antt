@@ -1,5 +1,5 @@
 -- The objects of a program's literals are of classes whose slots are free.
-use Rattle.std.proofs.Common.{◌≡◌, ℕ, zero, suc, ◌+◌, map, length, get_or, List, [], ◌∷◌, ◌++◌, Option, Some, None, false, refl}
+use Rattle.std.proofs.Common.{◌≡◌, ℕ, ◌<◌, arith, zero, suc, ◌+◌, map, length, get_or, List, [], ◌∷◌, ◌++◌, Option, Some, None, false, refl}
 use Rattle.object_heap.specs.Store.{Store, Object as HeapObject, no_object}
 use Rattle.st_base.specs.Troubles.{trouble_texts}
 use Rattle.st_code.specs.Named.{Literal, NilLiteral, TrueLiteral, FalseLiteral, IntegerLiteral, CharacterLiteral, StringLiteral, SymbolLiteral, ArrayLiteral, Literals, no_literals, more_literals, NamedPrimary, NameOf, SelfName, SuperName, LiteralOf, BlockOf, ParenOf, NamedOperand, OperandOf, NamedOperands, no_operands, more_operands, NamedMessages, none_sent, then_sent, NamedExpr, ExprOf, NamedStatements, no_statements, more_statements}
@@ -19,6 +19,7 @@ use Rattle.law_values.proofs.BuiltObjects.{is_fixed, free_object, no_object_buil
 pub record PlainObject (o : HeapObject) : Type 0 where
   pub loose : is_fixed o.class ≡ false
   pub none : o.closure ≡ None
+  pub low : o.class < 30
 
 abbrev pub AllPlain : List HeapObject → Type 0
 AllPlain [] = Unit {0}
@@ -35,9 +36,9 @@ mutual
   literal_plain names n FalseLiteral = tt
   literal_plain names n (IntegerLiteral i) = tt
   literal_plain names n (CharacterLiteral b) = tt
-  literal_plain names n (StringLiteral t) = (record { loose = refl; none = refl }, tt)
+  literal_plain names n (StringLiteral t) = (record { loose = refl; none = refl; low = omega arith }, tt)
   literal_plain names n (SymbolLiteral t) = tt
-  literal_plain names n (ArrayLiteral row) = (record { loose = refl; none = refl }, literals_plain names (suc n) row)
+  literal_plain names n (ArrayLiteral row) = (record { loose = refl; none = refl; low = omega arith }, literals_plain names (suc n) row)
 
   literals_plain : (names : List Text) (n : ℕ) (row : Literals) → AllPlain (literals_made names n row).objects
   literals_plain names n no_literals = tt
@@ -109,7 +110,7 @@ module _ (X : Names) where
 
 texts_plain : (texts : List Text) → AllPlain (map literal_string texts)
 texts_plain [] = tt
-texts_plain (t ∷ texts) = (record { loose = refl; none = refl }, texts_plain texts)
+texts_plain (t ∷ texts) = (record { loose = refl; none = refl; low = omega arith }, texts_plain texts)
 
 pub troubles_plain : AllPlain trouble_literals
 unfolding trouble_literals
@@ -117,7 +118,7 @@ troubles_plain = texts_plain trouble_texts
 
 -- ---- the store that a run begins with
 
-pub built_of : (p : Program) (s : Store) (objects : List HeapObject) → AllPlain objects → (n : ℕ) → BuiltObject p s (get_or objects n no_object)
-built_of p s [] h n = no_object_built p s
-built_of p s (o ∷ objects) h zero = free_object p s o h.0.loose h.0.none
-built_of p s (o ∷ objects) h (suc n) = built_of p s objects h.1 n
+pub built_of : (p : Program) (s : Store) → 29 < length p.classes → (objects : List HeapObject) → AllPlain objects → (n : ℕ) → BuiltObject p s (get_or objects n no_object)
+built_of p s l [] h n = no_object_built p s (omega (arith, l))
+built_of p s l (o ∷ objects) h zero = let k = h.0.low in free_object p s o h.0.loose h.0.none (omega (arith, k, l))
+built_of p s l (o ∷ objects) h (suc n) = built_of p s l objects h.1 n

@@ -42,6 +42,7 @@ HasClosure s (Some closure) = closure < length s.closures
 HasClosure s None = ⊥
 
 pub record BuiltObject (p : Program) (s : Store) (o : HeapObject) : Type 0 where
+  pub classed : o.class < length p.classes
   pub counted : is_one_of fixed_classes o.class ≡ true → length o.slots ≡ (class_at p o.class).slots
   pub fraction : o.class ≡ fraction_class → IsFraction o.slots
   pub interval : o.class ≡ interval_class → IsInterval o.slots

@@ -1,6 +1,6 @@
 -- What is asked of a program so that its objects stay built.
-use Rattle.std.specs.Prelude.{◌≡◌, ℕ, List, [], ◌∷◌}
-use Rattle.st_code.specs.BuiltIns.{object_class, fraction_class, interval_class, association_class, block_class, message_class, exception_class, error_class, zero_divide_class, message_not_understood_class, notification_class, warning_class}
+use Rattle.std.specs.Prelude.{◌≡◌, ℕ, ◌<◌, length, List, [], ◌∷◌}
+use Rattle.st_code.specs.BuiltIns.{object_class, fraction_class, interval_class, association_class, block_class, message_class, exception_class, error_class, zero_divide_class, message_not_understood_class, notification_class, warning_class, exception_set_class}
 use Rattle.st_code.specs.Definitions.{RunLimits, program_of}
 use Rattle.st_code.specs.Lookup.{superclasses}
 use Rattle.st_code.specs.Named.{NamedUnit}
@@ -44,8 +44,9 @@ abbrev pub Stand : Program → List Chain → Type 0
 Stand p [] = Unit {0}
 Stand p (c ∷ cs) = (superclasses p c.class ≡ c.class ∷ c.above) × Stand p cs
 
--- these stand so, with their slots, and no literal is of one of them
+-- these stand so, with their slots, and no literal is of one of them; and the program has each built-in class
 pub record KnowsBuilt (p : Program) : Type 0 where
+  pub classes : exception_set_class < length p.classes
   pub above : Stand p chains
   pub fractions : (class_at p fraction_class).slots ≡ 2
   pub intervals : (class_at p interval_class).slots ≡ 3
