@@ -10,3 +10,15 @@ pub mod PlainLiterals
 pub mod KnownPrograms
 pub mod NamedSymbols
 pub mod HeldSymbols
+pub mod ValuesThere
+pub mod RowsThere
+pub mod NumbersThere
+pub mod MoreRowsThere
+pub mod VisitsThere
+pub mod SendsThere
+pub mod MachineThere
+pub mod RunThere
+pub mod TreesThere
+pub mod MadeThere
+pub mod ProgramThere
+pub mod NumbersKnown

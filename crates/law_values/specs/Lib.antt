@@ -2,3 +2,4 @@ pub mod BuiltObjects
 pub mod KnownBuilt
 pub mod BuiltRun
 pub mod NamedSymbols
+pub mod KnownNumbers
