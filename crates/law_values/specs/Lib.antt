@@ -1,0 +1,5 @@
+pub mod BuiltObjects
+pub mod KnownBuilt
+pub mod BuiltRun
+pub mod NamedSymbols
+pub mod KnownNumbers

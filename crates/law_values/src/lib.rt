@@ -1,0 +1,10 @@
+// The laws of values, over a whole run: each built-in object's slots hold what its messages put there, each Fraction stands in lowest terms, and the numbers of objects, classes, symbols and selectors name something.
+#![tactic(auto)]
+
+mod numbers;
+mod objects;
+mod symbols;
+
+pub use numbers::each_number_is_named;
+pub use objects::each_object_is_built;
+pub use symbols::each_symbol_is_named;
