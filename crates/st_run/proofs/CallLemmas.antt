@@ -23,7 +23,7 @@ use Rattle.st_run.specs.Reports.{read_fault_line, memory_line}
 use Rattle.st_run.specs.Outcomes as Outcomes
 use Rattle.st_run.specs.Outcomes.{Outcome, refused, usage, audited, OfTask, DoneBy}
 use Rattle.st_run.specs.Commands.{ForBytes, Reads, IsValid, IsValidFor, IsValidBy, DoneStatus, Does, OfInput, OfAnswer, OfRules, LeavesOpenBy, StaysOpen, ReadsProgram, behind, file_of}
-use Rattle.st_run.specs.Claim.{Call, command, IsDone, IsReported, StopsIn, in_output, in_report, in_read_fault, in_want, NoneFails, Claimed}
+use Rattle.st_run.specs.Claim.{Call, command, IsDone, IsReported, StopsIn, in_output, in_report, in_fault, in_want, NoneFails, Claimed}
 use Rattle.st_run.specs.Ends.{Finishes, finished, stops_in_output, stops_in_report, stops_in_want, wants, EndsBy, DoesTold, Calls, finishes, lacks, fails, stops_in_fault}
 use Rattle.st_run.proofs.StatusLemmas.{is_answer, write_fault_tells}
 use Rattle.st_run.proofs.SomeOutcome.{some_outcome, some_of_rules, of_task_status}
@@ -132,8 +132,8 @@ module _ (outcome : Outcome) (out report : Device) (status : Status) (same : Kee
   tells line is quiet answer other whole part = elim (write_fault_tells status) [
     | inl at ↦ stops_in_report at (part other at).1 (gained_nothing out outcome.output same quiet) (rw (← is) (part other at).0)
     | inr differs ↦
-      finished (gained_nothing out outcome.output same quiet) ((whole differs).1 ∙ ap (append_known report.before) is) (whole differs).0
-          (subst IsAnswer (sym (whole differs).0) answer)
+        finished (gained_nothing out outcome.output same quiet) ((whole differs).1 ∙ ap (append_known report.before) is) (whole differs).0
+        (subst IsAnswer (sym (whole differs).0) answer)
   ]
 
   pub tells_want : (status ≢ final.WriteFault → (status ≡ final.OutOfMemory) × (report.after ≡ append_known report.before memory_line))
@@ -200,7 +200,7 @@ module _ (c : Call) where
   write_of (finishes outcome f is end) at = for_outcome (command c) c.source.before (StopsIn c) outcome is (stops c outcome f at)
   write_of (lacks f either) at = for_all (command c) c.source.before (StopsIn c) (λ outcome. stops c outcome (f outcome) at)
   write_of (fails fault same told r reads opens) at = cc
-  write_of (stops_in_fault fault t r same part reads) at = for_all (command c) c.source.before (StopsIn c) (λ outcome. in_read_fault r t same part)
+  write_of (stops_in_fault fault t r same part reads) at = for_all (command c) c.source.before (StopsIn c) (λ outcome. in_fault r t same part)
 
   write_cause_of : Ends → c.status ≡ final.WriteFault → Fails c.out ⊎ Fails c.report
   write_cause_of (finishes outcome f is end) at = cause c outcome f at

@@ -36,7 +36,7 @@ pub record IsReported (c : Call) (line : List ℕ) : Type 0 where
 pub data StopsIn (c : Call) (outcome : Outcome) : Type 0 where
   in_output : Fails c.out → GainedPart c.out outcome.output → Keeps c.report → StopsIn c outcome
   in_report : Fails c.report → Gained c.out outcome.output → GainedPart c.report outcome.report → StopsIn c outcome
-  in_read_fault : Fails c.source → Fails c.report → Keeps c.out → GainedPart c.report read_fault_line → StopsIn c outcome
+  in_fault : Fails c.source → Fails c.report → Keeps c.out → GainedPart c.report read_fault_line → StopsIn c outcome
   in_want : Fails c.report → Keeps c.out → GainedPart c.report memory_line → StopsIn c outcome
 
 abbrev pub NoneFails : Call → Type 0

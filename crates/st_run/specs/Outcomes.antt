@@ -47,7 +47,7 @@ usage = record { output = []; report = usage_line; status = final.Usage }
 abbrev pub program_for : Command → List unit.Unit → Program
 program_for c us =
     program_of (names_in (named_units us)) (named_units us)
-        (record { steps = c.limits.steps; depth = c.limits.depth; cells = c.limits.cells })
+    (record { steps = c.limits.steps; depth = c.limits.depth; cells = c.limits.cells })
 
 -- what is answered of an ending; no run is stuck
 abbrev pub ending_status : Ending → Option Status

@@ -10,7 +10,7 @@ ghost use Rattle.st_shake.specs.Shaken.{shaken};
 ghost use Rattle.st_words.specs.CommandLine.{IsInBounds};
 ghost use Rattle.st_run.specs.Outcomes.{Outcome, done, refused, usage, OfTask};
 ghost use Rattle.st_run.specs.Commands.{OfRules};
-ghost use Rattle.st_run.specs.declared.status.Status.TheVariants.{WriteFault, OutOfMemory};
+ghost use Rattle.st_run.specs.declared.status.Status.TheVariants as statuses;
 ghost use Rattle.st_run.specs.Devices.{Device, device, Keeps};
 ghost use Rattle.st_run.specs.Ends.{EndsBy, Finishes};
 
@@ -30,9 +30,9 @@ use std::alloc::Global;
 
 // Reports a line, and answers the status, or a write fault.
 pub(crate) fn tell<E: Sink>(report: &mut E, line: &[u8], status: Status) -> Status
-    ensures told { result ≢ WriteFault
+    ensures told { result ≢ statuses.WriteFault
         → (result ≡ status) × (E.written report.new ≡ append_known (E.written report.old) line.now) }
-    ensures part { status ≢ WriteFault → result ≡ WriteFault
+    ensures part { status ≢ statuses.WriteFault → result ≡ statuses.WriteFault
         → GainsPrefix (E.written report.old) (E.written report.new) line.now
         × Rose (E.faults report.old) (E.faults report.new) }
 {
@@ -44,7 +44,7 @@ pub(crate) fn tell<E: Sink>(report: &mut E, line: &[u8], status: Status) -> Stat
 
 /// Reports want of memory, and answers it, or a write fault where the report failed.
 pub fn report_want_of_memory<E: Sink>(report: &mut E) -> Status
-    ensures status { (result ≡ WriteFault) ⊎ (result ≡ OutOfMemory) }
+    ensures status { (result ≡ statuses.WriteFault) ⊎ (result ≡ statuses.OutOfMemory) }
     ensures finishes { (outcome : Outcome) (out : Device) → Keeps out → Finishes outcome out
         (device (E.written report.old) (E.faults report.old) (E.written report.new) (E.faults report.new)) result }
 {

@@ -52,7 +52,7 @@ fn put_stats_if<E: Sink>(
     wanted: bool,
     report: &mut E,
 ) -> Result<(), Failed>
-    ensures text { Gains (E.written report.old) (E.written report.new) result 
+    ensures text { Gains (E.written report.old) (E.written report.new) result
         (stats_if wanted machine.now.steps machine.now.deepest machine.now.memory.used machine.now.instructions) }
     ensures cause { HasCause (E.faults report.old) (E.faults report.new) result }
 {
@@ -69,7 +69,7 @@ fn put_report<E: Sink>(
     ending: Ending,
     report: &mut E,
 ) -> Result<(), Failed>
-    ensures text { Gains (E.written report.old) (E.written report.new) result 
+    ensures text { Gains (E.written report.old) (E.written report.new) result
         (ending_report command machine.now ending) }
     ensures cause { HasCause (E.faults report.old) (E.faults report.new) result }
 {

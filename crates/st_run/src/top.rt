@@ -128,11 +128,12 @@ pub fn stx<S: Source, K: Sink, E: Sink>(
     report: &mut E,
 ) -> Status
     ensures { Claimed (record {
-        words = map string_bytes words.now;
-        source = device (S.left source.old) (S.faults source.old) (S.left source.new) (S.faults source.new);
-        out = device (K.written out.old) (K.faults out.old) (K.written out.new) (K.faults out.new);
-        report = device (E.written report.old) (E.faults report.old) (E.written report.new) (E.faults report.new);
-        status = result }) }
+      words = map string_bytes words.now;
+      source = device (S.left source.old) (S.faults source.old) (S.left source.new) (S.faults source.new);
+      out = device (K.written out.old) (K.faults out.old) (K.written out.new) (K.faults out.new);
+      report = device (E.written report.old) (E.faults report.old) (E.written report.new) (E.faults report.new);
+      status = result;
+    }) }
 {
     call(alloc, words, source, out, report)
 }
