@@ -1,5 +1,5 @@
 -- How a call comes to its end by the answer of an audit.
-use Rattle.std.proofs.Common.{◌≡◌, ◌≢◌, ◌≤◌, inl, inr, ℕ, List, [], Option, None, Some, IfSome, refl, sym, subst, arith}
+use Rattle.std.proofs.Common.{◌≡◌, ◌≢◌, ℕ, List, [], Option, None, Some, IfSome, refl, sym, subst}
 use Rattle.std.specs.Io.KnownBytes.{append_known}
 use Rattle.st_base.specs.Streams.{GainsPrefix}
 use Rattle.st_words.specs.declared.command.Command.{Command}
@@ -8,15 +8,14 @@ use Rattle.st_words.specs.declared.command.Task.TheVariants as task
 use Rattle.st_trace.specs.Answering.{Judged, LeavesAuditOpen}
 use Rattle.st_trace.specs.declared.auditing.AuditAnswer.TheVariants as audit
 use Rattle.st_trace.specs.declared.auditing.AuditReason.{AuditReason}
+use Rattle.st_run.specs.declared.status.Status.{Status}
+use Rattle.st_run.specs.declared.status.Status.TheVariants as final
+use Rattle.st_run.specs.Devices.{Device, Fails, Keeps}
 use Rattle.st_run.specs.Reports.{disciplined_line, read_fault_line}
-use Rattle.st_run.specs.Outcomes.{Outcome, audited, done, IsEnding, OfAudit}
+use Rattle.st_run.specs.Outcomes.{Outcome, audited, done, OfAudit}
 use Rattle.st_run.specs.Commands.{Does, LeavesOpenBy, OfInput}
-use Rattle.st_run.specs.Headline.{Finishes, Calls, finishes}
-use Rattle.st_run.proofs.CallLemmas.{any_write, fault_calls, no_ending}
-
-not_11 : IsEnding 11 → ⊥
-not_11 (inl zero) = cc
-not_11 (inr at) = omega (arith, at.1)
+use Rattle.st_run.specs.Ends.{Finishes, Calls, finishes}
+use Rattle.st_run.proofs.CallLemmas.{fault_calls, no_ending}
 
 module _ (c : Command) (same : c.task ≡ task.Audit) where
   of_audit : (bytes : List ℕ) (o : Outcome) → OfAudit bytes o → Does (Some c) bytes o
@@ -33,13 +32,16 @@ module _ (c : Command) (same : c.task ≡ task.Audit) where
   opens_audit : (left left' : Option (List ℕ)) → IfSome left (λ bytes. LeavesAuditOpen bytes left') → IfSome left (λ bytes. LeavesOpenBy c.task bytes left')
   opens_audit left left' h = subst (λ (t : Task). IfSome left (λ bytes. LeavesOpenBy t bytes left')) (sym same) h
 
-  module _ (left left' : Option (List ℕ)) (R W T : Type 0) where
-    pub disciplined_calls : (out out' report report' : Option (List ℕ)) (status lines : ℕ) → IfSome left (λ bytes. Judged bytes (audit.Disciplined lines)) → IfSome left' (λ bytes. bytes ≡ []) → Finishes (done (disciplined_line lines)) W T out out' report report' status → Calls (Some c) left left' R W T out out' report report' status
-    disciplined_calls out out' report report' status lines h end f = finishes (done (disciplined_line lines)) f (disciplined_does left lines h) (λ at. end)
+  module _ (source out report : Device) (status : Status) where
+    pub disciplined_calls : (lines : ℕ) → IfSome source.before (λ bytes. Judged bytes (audit.Disciplined lines)) → IfSome source.after (λ bytes. bytes ≡ []) → Finishes (done (disciplined_line lines)) out report status → Calls (Some c) source out report status
+    disciplined_calls lines h end f = finishes (done (disciplined_line lines)) f (disciplined_does source.before lines h) (λ at. end)
 
-    pub refused_trace_calls : (out report report' : Option (List ℕ)) (status line : ℕ) (why : AuditReason) → IfSome left (λ bytes. Judged bytes (audit.Refused line why)) → Finishes (audited (audit.Refused line why)) ⊥ T out out report report' status → Calls (Some c) left left' R W T out out report report' status
-    refused_trace_calls out report report' status line why h f =
-        finishes (audited (audit.Refused line why)) (any_write (audited (audit.Refused line why)) W T out out report report' status f) (refused_does left line why h) (λ at. absurd (no_ending (audited (audit.Refused line why)) ⊥ T out out report report' status not_11 f at))
+    pub refused_trace_calls : (line : ℕ) (why : AuditReason) → IfSome source.before (λ bytes. Judged bytes (audit.Refused line why)) → Finishes (audited (audit.Refused line why)) out report status → Calls (Some c) source out report status
+    refused_trace_calls line why h f =
+        finishes (audited (audit.Refused line why)) f (refused_does source.before line why h) (λ at. absurd (no_ending (audited (audit.Refused line why)) out report status (λ at. at) f at))
 
-    pub audit_fault_calls : (out report report' : Option (List ℕ)) (status : ℕ) → (status ≢ 9 → (status ≡ 8) × (report' ≡ append_known report read_fault_line)) → (status ≡ 9 → GainsPrefix report report' read_fault_line × T) → R → IfSome left (λ bytes. LeavesAuditOpen bytes left') → Calls (Some c) left left' R W T out out report report' status
-    audit_fault_calls out report report' status whole part r opens = fault_calls c left left' R W T out report report' status whole part r (opens_audit left left' opens)
+    pub audit_fault_calls : Keeps out
+        → (status ≢ final.WriteFault → (status ≡ final.ReadFault) × (report.after ≡ append_known report.before read_fault_line))
+        → (status ≡ final.WriteFault → GainsPrefix report.before report.after read_fault_line × Fails report)
+        → Fails source → IfSome source.before (λ bytes. LeavesAuditOpen bytes source.after) → Calls (Some c) source out report status
+    audit_fault_calls same whole part r opens = fault_calls source out report status same c whole part r (opens_audit source.before source.after opens)

@@ -1,7 +1,6 @@
 -- What is said of a call by how it ends.
-use Rattle.std.proofs.Common.{◌≡◌, ◌≢◌, ◌⊎◌, ◌∙◌, ◌≤◌, inl, inr, ℕ, ◌++◌, List, [], ◌∷◌, length, Option, None, Some, IfSome, refl, sym, ap, subst, arith}
+use Rattle.std.proofs.Common.{◌≡◌, ◌≢◌, ◌⊎◌, ◌∙◌, inl, inr, ℕ, ◌++◌, List, [], ◌∷◌, length, Option, None, Some, IfSome, refl, sym, ap, subst, arith}
 use Rattle.std.proofs.lemmas.List.{append-nil}
-use Rattle.std.proofs.lemmas.Bool.Decides.{eqb_tells}
 use Rattle.std.specs.Io.KnownBytes.{append_known}
 use Rattle.st_base.specs.declared.faults.Place.{Place}
 use Rattle.st_base.specs.declared.faults.Reason.{Reason}
@@ -14,13 +13,19 @@ use Rattle.st_tree.specs.declared.units.Unit as unit
 use Rattle.st_checks.specs.StaticRules.{broken, first_break}
 use Rattle.st_words.specs.declared.command.Command.{Command}
 use Rattle.st_words.specs.declared.command.Task.{Task}
-use Rattle.st_run.specs.Reports.{read_fault_line, memory_line}
-use Rattle.st_run.specs.Outcomes as Outcomes
-use Rattle.st_run.specs.Outcomes.{Outcome, refused, usage, audited, OfTask, IsEnding, DoneBy}
 use Rattle.st_words.specs.declared.command.Task.TheVariants as task
 use Rattle.st_trace.specs.declared.auditing.AuditAnswer.TheVariants as audit
+use Rattle.st_run.specs.declared.status.Status.{Status}
+use Rattle.st_run.specs.declared.status.Status.TheVariants as final
+use Rattle.st_run.specs.Statuses.{IsAnswer, IsEnding}
+use Rattle.st_run.specs.Devices.{Device, Fails, Keeps, Gained, GainedPart}
+use Rattle.st_run.specs.Reports.{read_fault_line, memory_line}
+use Rattle.st_run.specs.Outcomes as Outcomes
+use Rattle.st_run.specs.Outcomes.{Outcome, refused, usage, audited, OfTask, DoneBy}
 use Rattle.st_run.specs.Commands.{ForBytes, Reads, IsValid, IsValidFor, IsValidBy, DoneStatus, Does, OfInput, OfAnswer, OfRules, LeavesOpenBy, StaysOpen, ReadsProgram, behind, file_of}
-use Rattle.st_run.specs.Headline.{IsDone, IsReported, StopsIn, in_output, in_report, in_read_fault, in_want, Finishes, finished, stops_in_output, stops_in_report, stops_in_want, wants, EndsBy, DoesTold, Calls, finishes, lacks, fails, stops_in_fault}
+use Rattle.st_run.specs.Claim.{Call, command, IsDone, IsReported, StopsIn, in_output, in_report, in_fault, in_want, NoneFails, Claimed}
+use Rattle.st_run.specs.Ends.{Finishes, finished, stops_in_output, stops_in_report, stops_in_want, wants, EndsBy, DoesTold, Calls, finishes, lacks, fails, stops_in_fault}
+use Rattle.st_run.proofs.StatusLemmas.{is_answer, write_fault_tells}
 use Rattle.st_run.proofs.SomeOutcome.{some_outcome, some_of_rules, of_task_status}
 use Rattle.st_run.proofs.OneOutcome.{one_answer}
 
@@ -39,200 +44,181 @@ for_all (Some c) (Some bytes) P holds =
 
 -- ---- of a call that finishes
 
-above_7 : (status : ℕ) → IsEnding status → 8 ≤ status → ⊥
-above_7 status (inl zero) h = omega (arith, zero, h)
-above_7 status (inr at) h = omega (arith, at.1, h)
+pub no_ending : (outcome : Outcome) (out report : Device) (status : Status) → (IsEnding outcome.status → ⊥) → Finishes outcome out report status → IsEnding status → ⊥
+no_ending outcome out report status differs (finished wrote told is answer) at = differs (subst IsEnding is at)
+no_ending outcome out report status differs (stops_in_output fault w part same) at = subst IsEnding fault at
+no_ending outcome out report status differs (stops_in_report fault t whole part) at = subst IsEnding fault at
+no_ending outcome out report status differs (stops_in_want fault t same part) at = subst IsEnding fault at
+no_ending outcome out report status differs (wants want same told) at = subst IsEnding want at
 
-not_1_or_2 : (status : ℕ) → (status ≡ 1) ⊎ (status ≡ 2) → IsEnding status → ⊥
-not_1_or_2 status (inl one) (inl zero) = omega (arith, one, zero)
-not_1_or_2 status (inl one) (inr at) = omega (arith, one, at.0)
-not_1_or_2 status (inr two) (inl zero) = omega (arith, two, zero)
-not_1_or_2 status (inr two) (inr at) = omega (arith, two, at.0)
+module _ (c : Call) (outcome : Outcome) where
+  is_done : Finishes outcome c.out c.report c.status → IsAnswer c.status → IsDone c outcome
+  is_done (finished wrote told is answer) answers = record { wrote = wrote; told = told; answered = is }
+  is_done (stops_in_output fault w part same) answers = absurd (subst IsAnswer fault answers)
+  is_done (stops_in_report fault t whole part) answers = absurd (subst IsAnswer fault answers)
+  is_done (stops_in_want fault t same part) answers = absurd (subst IsAnswer fault answers)
+  is_done (wants want same told) answers = absurd (subst IsAnswer want answers)
 
-module _ (outcome : Outcome) (W T : Type 0) (out out' report report' : Option (List ℕ)) (status : ℕ) where
-  pub is_done : Finishes outcome W T out out' report report' status → status ≢ 9 → status ≢ 10 → IsDone outcome out out' report report' status
-  is_done (finished is no8 no9 no10) not9 not10 = is
-  is_done (stops_in_output nine w part same) not9 not10 = absurd (not9 nine)
-  is_done (stops_in_report nine t whole part) not9 not10 = absurd (not9 nine)
-  is_done (stops_in_want nine t same part) not9 not10 = absurd (not9 nine)
-  is_done (wants ten is) not9 not10 = absurd (not10 ten)
+  no_read_fault : Finishes outcome c.out c.report c.status → c.status ≢ final.ReadFault
+  no_read_fault (finished wrote told is answer) = λ at. subst IsAnswer at answer
+  no_read_fault (stops_in_output fault w part same) = λ at. cc
+  no_read_fault (stops_in_report fault t whole part) = λ at. cc
+  no_read_fault (stops_in_want fault t same part) = λ at. cc
+  no_read_fault (wants want same told) = λ at. cc
 
-  pub not_8 : Finishes outcome W T out out' report report' status → status ≢ 8
-  not_8 (finished is no8 no9 no10) = no8
-  not_8 (stops_in_output nine w part same) = λ eight. cc
-  not_8 (stops_in_report nine t whole part) = λ eight. cc
-  not_8 (stops_in_want nine t same part) = λ eight. cc
-  not_8 (wants ten is) = λ eight. cc
+  stops : Finishes outcome c.out c.report c.status → c.status ≡ final.WriteFault → StopsIn c outcome
+  stops (finished wrote told is answer) at = absurd (subst IsAnswer at answer)
+  stops (stops_in_output fault w part same) at = in_output w part same
+  stops (stops_in_report fault t whole part) at = in_report t whole part
+  stops (stops_in_want fault t same part) at = in_want t same part
+  stops (wants want same told) at = cc
 
-  pub no_ending : (IsEnding outcome.status → ⊥) → Finishes outcome W T out out' report report' status → IsEnding status → ⊥
-  no_ending differs (finished is no8 no9 no10) at = differs (rw (← is.answered) at)
-  no_ending differs (stops_in_output nine w part same) at = above_7 status at (rw nine (omega arith))
-  no_ending differs (stops_in_report nine t whole part) at = above_7 status at (rw nine (omega arith))
-  no_ending differs (stops_in_want nine t same part) at = above_7 status at (rw nine (omega arith))
-  no_ending differs (wants ten is) at = above_7 status at (rw ten (omega arith))
+  cause : Finishes outcome c.out c.report c.status → c.status ≡ final.WriteFault → Fails c.out ⊎ Fails c.report
+  cause (finished wrote told is answer) at = absurd (subst IsAnswer at answer)
+  cause (stops_in_output fault w part same) at = inl w
+  cause (stops_in_report fault t whole part) at = inr t
+  cause (stops_in_want fault t same part) at = inr t
+  cause (wants want same told) at = cc
 
-  pub stops : (R : Type 0) → Finishes outcome W T out out' report report' status → status ≡ 9 → StopsIn outcome R W T out out' report report'
-  stops R (finished is no8 no9 no10) nine = absurd (no9 nine)
-  stops R (stops_in_output at w part same) nine = in_output w part same
-  stops R (stops_in_report at t whole part) nine = in_report t whole part
-  stops R (stops_in_want at t same part) nine = in_want t same part
-  stops R (wants ten is) nine = cc
-
-  pub cause : Finishes outcome W T out out' report report' status → status ≡ 9 → W ⊎ T
-  cause (finished is no8 no9 no10) nine = absurd (no9 nine)
-  cause (stops_in_output at w part same) nine = inl w
-  cause (stops_in_report at t whole part) nine = inr t
-  cause (stops_in_want at t same part) nine = inr t
-  cause (wants ten is) nine = cc
-
-  pub is_wanted : Finishes outcome W T out out' report report' status → status ≡ 10 → IsReported memory_line out out' report report'
-  is_wanted (finished is no8 no9 no10) ten = absurd (no10 ten)
-  is_wanted (stops_in_output nine w part same) ten = cc
-  is_wanted (stops_in_report nine t whole part) ten = cc
-  is_wanted (stops_in_want nine t same part) ten = cc
-  is_wanted (wants at is) ten = is
-
-  pub any_write : Finishes outcome ⊥ T out out' report report' status → Finishes outcome W T out out' report report' status
-  any_write (finished is no8 no9 no10) = finished is no8 no9 no10
-  any_write (stops_in_output nine w part same) = absurd w
-  any_write (stops_in_report nine t whole part) = stops_in_report nine t whole part
-  any_write (stops_in_want nine t same part) = stops_in_want nine t same part
-  any_write (wants ten is) = wants ten is
-
-  pub any_report : Finishes outcome W ⊥ out out' report report' status → Finishes outcome W T out out' report report' status
-  any_report (finished is no8 no9 no10) = finished is no8 no9 no10
-  any_report (stops_in_output nine w part same) = stops_in_output nine w part same
-  any_report (stops_in_report nine t whole part) = absurd t
-  any_report (stops_in_want nine t same part) = absurd t
-  any_report (wants ten is) = wants ten is
+  is_wanted : Finishes outcome c.out c.report c.status → c.status ≡ final.OutOfMemory → IsReported c memory_line
+  is_wanted (finished wrote told is answer) at = absurd (subst IsAnswer at answer)
+  is_wanted (stops_in_output fault w part same) at = cc
+  is_wanted (stops_in_report fault t whole part) at = cc
+  is_wanted (stops_in_want fault t same part) at = cc
+  is_wanted (wants want same told) at = record { wrote = same; told = told }
 
 -- a text that was made
-pub made_text : (text bytes : List ℕ) (W T : Type 0) (out out' report report' : Option (List ℕ)) (status : ℕ) → bytes ≡ text → Finishes (Outcomes.done bytes) W ⊥ out out' report report' status → Finishes (Outcomes.done text) W T out out' report report' status
-made_text text bytes W T out out' report report' status same f = subst (λ (t : List ℕ). Finishes (Outcomes.done t) W T out out' report report' status) same (any_report (Outcomes.done bytes) W T out out' report report' status f)
+pub made_text : (text bytes : List ℕ) (out report : Device) (status : Status) → bytes ≡ text → Finishes (Outcomes.done bytes) out report status → Finishes (Outcomes.done text) out report status
+made_text text bytes out report status same f = subst (λ (t : List ℕ). Finishes (Outcomes.done t) out report status) same f
 
 -- with a property of outcomes
-pub ends_by : (P : Outcome → Type 0) (o : Outcome) (W T : Type 0) (out out' report report' : Option (List ℕ)) (status : ℕ) → P o → Finishes o W T out out' report report' status → EndsBy P W T out out' report report' status
-ends_by P o W T out out' report report' status is f = record { outcome = o; is = is; ends = f }
+pub ends_by : (P : Outcome → Type 0) (o : Outcome) (out report : Device) (status : Status) → P o → Finishes o out report status → EndsBy P out report status
+ends_by P o out report status is f = record { outcome = o; is = is; ends = f }
 
 -- of the task that a command names
-pub of_task : (t : Task) (c : Command) (us : List unit.Unit) (bytes : ℕ) (W T : Type 0) (out out' report report' : Option (List ℕ)) (status : ℕ) → c.task ≡ t → EndsBy (OfTask t c us bytes) W T out out' report report' status → EndsBy (OfTask c.task c us bytes) W T out out' report report' status
-of_task t c us bytes W T out out' report report' status is e = subst (λ (u : Task). EndsBy (OfTask u c us bytes) W T out out' report report' status) (sym is) e
+pub of_task : (t : Task) (c : Command) (us : List unit.Unit) (bytes : ℕ) (out report : Device) (status : Status) → c.task ≡ t → EndsBy (OfTask t c us bytes) out report status → EndsBy (OfTask c.task c us bytes) out report status
+of_task t c us bytes out report status is e = subst (λ (u : Task). EndsBy (OfTask u c us bytes) out report status) (sym is) e
 
 -- where memory is wanted, any outcome will do
-pub wanted_by : (P : Outcome → Type 0) (W T : Type 0) (out report report' : Option (List ℕ)) (status : ℕ) → ((o : Outcome) × P o) → ((o : Outcome) → Finishes o ⊥ T out out report report' status) → EndsBy P W T out out report report' status
-wanted_by P W T out report report' status o f = record { outcome = o.0; is = o.1; ends = any_write o.0 W T out out report report' status (f o.0) }
+pub wanted_by : (P : Outcome → Type 0) (out report : Device) (status : Status) → ((o : Outcome) × P o) → ((o : Outcome) → Finishes o out report status) → EndsBy P out report status
+wanted_by P out report status o f = record { outcome = o.0; is = o.1; ends = f o.0 }
 
 -- a program that meets the static rules, and one that breaks them
-module _ (c : Command) (us : List unit.Unit) (bytes : ℕ) where
-  pub by_rules : (vs : List unit.Unit) (W T : Type 0) (out out' report report' : Option (List ℕ)) (status : ℕ) → vs ≡ us → first_break us ≡ None → EndsBy (OfTask c.task c vs bytes) W T out out' report report' status → EndsBy (OfRules c us bytes (first_break us)) W T out out' report report' status
-  by_rules vs W T out out' report report' status same meets e = record { outcome = e.outcome; is = rw meets (rw (← same) e.is); ends = e.ends }
+module _ (c : Command) (us : List unit.Unit) (bytes : ℕ) (out report : Device) (status : Status) where
+  pub by_rules : (vs : List unit.Unit) → vs ≡ us → first_break us ≡ None → EndsBy (OfTask c.task c vs bytes) out report status → EndsBy (OfRules c us bytes (first_break us)) out report status
+  by_rules vs same meets e = record { outcome = e.outcome; is = rw meets (rw (← same) e.is); ends = e.ends }
 
-  pub by_break : (place : Place) (why : Reason) (W T : Type 0) (out report report' : Option (List ℕ)) (status : ℕ) → first_break us ≡ Some (broken place why) → Finishes (refused place why) ⊥ T out out report report' status → EndsBy (OfRules c us bytes (first_break us)) W T out out report report' status
-  by_break place why W T out report report' status breaks f = record { outcome = refused place why; is = rw breaks refl; ends = any_write (refused place why) W T out out report report' status f }
+  pub by_break : (place : Place) (why : Reason) → first_break us ≡ Some (broken place why) → Finishes (refused place why) out report status → EndsBy (OfRules c us bytes (first_break us)) out report status
+  by_break place why breaks f = record { outcome = refused place why; is = rw breaks refl; ends = f }
 
-  pub want_by_rules : (W T : Type 0) (out report report' : Option (List ℕ)) (status : ℕ) → ((o : Outcome) → Finishes o ⊥ T out out report report' status) → EndsBy (OfRules c us bytes (first_break us)) W T out out report report' status
-  want_by_rules W T out report report' status f = wanted_by (OfRules c us bytes (first_break us)) W T out report report' status (some_of_rules c us bytes (first_break us)) f
+  pub want_by_rules : ((o : Outcome) → Finishes o out report status) → EndsBy (OfRules c us bytes (first_break us)) out report status
+  want_by_rules f = wanted_by (OfRules c us bytes (first_break us)) out report status (some_of_rules c us bytes (first_break us)) f
 
 pub append_known-nil : (known : Option (List ℕ)) → append_known known [] ≡ known
 append_known-nil None = refl
 append_known-nil (Some bytes) = ap Some (append-nil bytes)
 
+gained_nothing : (d : Device) (bytes : List ℕ) → Keeps d → bytes ≡ [] → Gained d bytes
+gained_nothing d bytes same none = same ∙ sym (ap (append_known d.before) none ∙ append_known-nil d.before)
+
 -- ---- what is told and written
 
 -- an outcome without output, whose line is told
-module _ (outcome : Outcome) (T : Type 0) (out report report' : Option (List ℕ)) (status : ℕ) where
-  told_all : outcome.output ≡ [] → status ≡ outcome.status → report' ≡ append_known report outcome.report → outcome.status ≢ 8 → outcome.status ≢ 9 → outcome.status ≢ 10 → Finishes outcome ⊥ T out out report report' status
-  told_all quiet is told no8 no9 no10 = finished (record { wrote = sym (ap (append_known out) quiet ∙ append_known-nil out); told = told; answered = is }) (λ at. no8 (sym is ∙ at)) (λ at. no9 (sym is ∙ at)) (λ at. no10 (sym is ∙ at))
-
-  told_part : outcome.output ≡ [] → status ≡ 9 → T → GainsPrefix report report' outcome.report → Finishes outcome ⊥ T out out report report' status
-  told_part quiet nine t part = stops_in_report nine t (sym (ap (append_known out) quiet ∙ append_known-nil out)) part
-
-  pub tells : (line : List ℕ) → line ≡ outcome.report → outcome.output ≡ [] → outcome.status ≢ 8 → outcome.status ≢ 9 → outcome.status ≢ 10
-      → (status ≢ 9 → (status ≡ outcome.status) × (report' ≡ append_known report line)) → (outcome.status ≢ 9 → status ≡ 9 → GainsPrefix report report' line × T) → Finishes outcome ⊥ T out out report report' status
-  tells line same quiet no8 no9 no10 whole part = elim (eqb_tells status 9) [
-    | inl at ↦ told_part quiet at.1 (part no9 at.1).1 (rw (← same) (part no9 at.1).0)
-    | inr other ↦ told_all quiet (whole other.1).0 ((whole other.1).1 ∙ ap (append_known report) same) no8 no9 no10
+module _ (outcome : Outcome) (out report : Device) (status : Status) (same : Keeps out) where
+  pub tells : (line : List ℕ) → line ≡ outcome.report → outcome.output ≡ [] → IsAnswer outcome.status → outcome.status ≢ final.WriteFault
+      → (status ≢ final.WriteFault → (status ≡ outcome.status) × (report.after ≡ append_known report.before line))
+      → (outcome.status ≢ final.WriteFault → status ≡ final.WriteFault → GainsPrefix report.before report.after line × Fails report)
+      → Finishes outcome out report status
+  tells line is quiet answer other whole part = elim (write_fault_tells status) [
+    | inl at ↦ stops_in_report at (part other at).1 (gained_nothing out outcome.output same quiet) (rw (← is) (part other at).0)
+    | inr differs ↦
+        finished (gained_nothing out outcome.output same quiet) ((whole differs).1 ∙ ap (append_known report.before) is) (whole differs).0
+        (subst IsAnswer (sym (whole differs).0) answer)
   ]
 
-  pub tells_want : (status ≢ 9 → (status ≡ 10) × (report' ≡ append_known report memory_line)) → (◌≢◌ {A = ℕ} 10 9 → status ≡ 9 → GainsPrefix report report' memory_line × T) → Finishes outcome ⊥ T out out report report' status
-  tells_want whole part = elim (eqb_tells status 9) [
-    | inl at ↦ stops_in_want at.1 (part (λ is. cc) at.1).1 refl (part (λ is. cc) at.1).0
-    | inr other ↦ wants (whole other.1).0 (record { wrote = refl; told = (whole other.1).1 })
+  pub tells_want : (status ≢ final.WriteFault → (status ≡ final.OutOfMemory) × (report.after ≡ append_known report.before memory_line))
+      → (final.OutOfMemory ≢ final.WriteFault → status ≡ final.WriteFault → GainsPrefix report.before report.after memory_line × Fails report)
+      → Finishes outcome out report status
+  tells_want whole part = elim (write_fault_tells status) [
+    | inl at ↦ stops_in_want at (part (λ is. cc) at).1 same (part (λ is. cc) at).0
+    | inr differs ↦ wants (whole differs).0 same (whole differs).1
   ]
 
-pub told_9_or_10 : (status : ℕ) (A : Type 0) → (status ≢ 9 → (status ≡ 10) × A) → (status ≡ 9) ⊎ (status ≡ 10)
-told_9_or_10 status A whole = elim (eqb_tells status 9) [ inl at ↦ inl at.1 | inr other ↦ inr (whole other.1).0 ]
+pub told_or_wanted : (status : Status) (A : Type 0) → (status ≢ final.WriteFault → (status ≡ final.OutOfMemory) × A) → (status ≡ final.WriteFault) ⊎ (status ≡ final.OutOfMemory)
+told_or_wanted status A whole = elim (write_fault_tells status) [ inl at ↦ inl at | inr differs ↦ inr (whole differs).0 ]
 
-pub writes_all : (W : Type 0) (bytes : List ℕ) (out out' report : Option (List ℕ)) → out' ≡ append_known out bytes → Finishes (Outcomes.done bytes) W ⊥ out out' report report 0
-writes_all W bytes out out' report wrote = finished (record { wrote = wrote; told = sym (append_known-nil report); answered = refl }) (λ is. cc) (λ is. cc) (λ is. cc)
+module _ (bytes : List ℕ) (out report : Device) (same : Keeps report) where
+  pub writes_all : Gained out bytes → Finishes (Outcomes.done bytes) out report final.Done
+  writes_all wrote = finished wrote (gained_nothing report [] same refl) refl tt
 
-pub writes_part : (W : Type 0) (bytes : List ℕ) (out out' report : Option (List ℕ)) → W → GainsPrefix out out' bytes → Finishes (Outcomes.done bytes) W ⊥ out out' report report 9
-writes_part W bytes out out' report w part = stops_in_output refl w part refl
+  pub writes_part : Fails out → GainedPart out bytes → Finishes (Outcomes.done bytes) out report final.WriteFault
+  writes_part w part = stops_in_output refl w part same
 
 -- ---- of a whole call
 
-module _ (command : Option Command) (left left' : Option (List ℕ)) (R W T : Type 0) (out out' report report' : Option (List ℕ)) (status : ℕ) where
-  pub done_of : Calls command left left' R W T out out' report report' status → status ≢ 8 → status ≢ 9 → status ≢ 10 → ForBytes command left (λ outcome. IsDone outcome out out' report report' status)
-  done_of (finishes outcome f is end) not8 not9 not10 = for_outcome command left _ outcome is (is_done outcome W T out out' report report' status f not9 not10)
-  done_of (lacks f (inl nine)) not8 not9 not10 = absurd (not9 nine)
-  done_of (lacks f (inr ten)) not8 not9 not10 = absurd (not10 ten)
-  done_of (fails eight is r reads opens) not8 not9 not10 = absurd (not8 eight)
-  done_of (stops_in_fault nine t r same part reads) not8 not9 not10 = absurd (not9 nine)
+-- what is claimed of a call by how it ends
+module _ (c : Call) where
+  abbrev Ends : Type 0
+  Ends = Calls (command c) c.source c.out c.report c.status
 
-  pub end_of : Calls command left left' R W T out out' report report' status → IsEnding status → IfSome left' (λ bytes. bytes ≡ [])
+  done_of : Ends → IsAnswer c.status → ForBytes (command c) c.source.before (IsDone c)
+  done_of (finishes outcome f is end) answer = for_outcome (command c) c.source.before (IsDone c) outcome is (is_done c outcome f answer)
+  done_of (lacks f (inl fault)) answer = absurd (subst IsAnswer fault answer)
+  done_of (lacks f (inr want)) answer = absurd (subst IsAnswer want answer)
+  done_of (fails fault same told r reads opens) answer = absurd (subst IsAnswer fault answer)
+  done_of (stops_in_fault fault t r same part reads) answer = absurd (subst IsAnswer fault answer)
+
+  end_of : Ends → IsEnding c.status → IfSome c.source.after (λ bytes. bytes ≡ [])
   end_of (finishes outcome f is end) at = end at
-  end_of (lacks f (inl nine)) at = absurd (above_7 status at (rw nine (omega arith)))
-  end_of (lacks f (inr ten)) at = absurd (above_7 status at (rw ten (omega arith)))
-  end_of (fails eight is r reads opens) at = absurd (above_7 status at (rw eight (omega arith)))
-  end_of (stops_in_fault nine t r same part reads) at = absurd (above_7 status at (rw nine (omega arith)))
+  end_of (lacks f (inl fault)) at = absurd (subst IsEnding fault at)
+  end_of (lacks f (inr want)) at = absurd (subst IsEnding want at)
+  end_of (fails fault same told r reads opens) at = absurd (subst IsEnding fault at)
+  end_of (stops_in_fault fault t r same part reads) at = absurd (subst IsEnding fault at)
 
-  pub fault_of : Calls command left left' R W T out out' report report' status → status ≡ 8 → IsReported read_fault_line out out' report report'
-  fault_of (finishes outcome f is end) eight = absurd (not_8 outcome W T out out' report report' status f eight)
-  fault_of (lacks f (inl nine)) eight = cc
-  fault_of (lacks f (inr ten)) eight = cc
-  fault_of (fails at is r reads opens) eight = is
-  fault_of (stops_in_fault nine t r same part reads) eight = cc
+  fault_of : Ends → c.status ≡ final.ReadFault → IsReported c read_fault_line
+  fault_of (finishes outcome f is end) at = absurd (no_read_fault c outcome f at)
+  fault_of (lacks f (inl fault)) at = cc
+  fault_of (lacks f (inr want)) at = cc
+  fault_of (fails fault same told r reads opens) at = record { wrote = same; told = told }
+  fault_of (stops_in_fault fault t r same part reads) at = cc
 
-  pub fault_cause : Calls command left left' R W T out out' report report' status → status ≡ 8 → R × Reads command
-  fault_cause (finishes outcome f is end) eight = absurd (not_8 outcome W T out out' report report' status f eight)
-  fault_cause (lacks f (inl nine)) eight = cc
-  fault_cause (lacks f (inr ten)) eight = cc
-  fault_cause (fails at is r reads opens) eight = (r, reads)
-  fault_cause (stops_in_fault nine t r same part reads) eight = cc
+  fault_cause : Ends → c.status ≡ final.ReadFault → Fails c.source × Reads (command c)
+  fault_cause (finishes outcome f is end) at = absurd (no_read_fault c outcome f at)
+  fault_cause (lacks f (inl fault)) at = cc
+  fault_cause (lacks f (inr want)) at = cc
+  fault_cause (fails fault same told r reads opens) at = (r, reads)
+  fault_cause (stops_in_fault fault t r same part reads) at = cc
 
-  pub fault_open : Calls command left left' R W T out out' report report' status → status ≡ 8 → IfSome left (λ bytes. StaysOpen command bytes left')
-  fault_open (finishes outcome f is end) eight = absurd (not_8 outcome W T out out' report report' status f eight)
-  fault_open (lacks f (inl nine)) eight = cc
-  fault_open (lacks f (inr ten)) eight = cc
-  fault_open (fails at is r reads opens) eight = opens
-  fault_open (stops_in_fault nine t r same part reads) eight = cc
+  fault_open : Ends → c.status ≡ final.ReadFault → IfSome c.source.before (λ bytes. StaysOpen (command c) bytes c.source.after)
+  fault_open (finishes outcome f is end) at = absurd (no_read_fault c outcome f at)
+  fault_open (lacks f (inl fault)) at = cc
+  fault_open (lacks f (inr want)) at = cc
+  fault_open (fails fault same told r reads opens) at = opens
+  fault_open (stops_in_fault fault t r same part reads) at = cc
 
-  pub write_of : Calls command left left' R W T out out' report report' status → status ≡ 9 → ForBytes command left (λ outcome. StopsIn outcome R W T out out' report report')
-  write_of (finishes outcome f is end) nine = for_outcome command left _ outcome is (stops outcome W T out out' report report' status R f nine)
-  write_of (lacks f at) nine = for_all command left _ (λ outcome. stops outcome W T out out' report report' status R (f outcome) nine)
-  write_of (fails eight is r reads opens) nine = cc
-  write_of (stops_in_fault at t r same part reads) nine = for_all command left _ (λ outcome. in_read_fault t r same part)
+  write_of : Ends → c.status ≡ final.WriteFault → ForBytes (command c) c.source.before (StopsIn c)
+  write_of (finishes outcome f is end) at = for_outcome (command c) c.source.before (StopsIn c) outcome is (stops c outcome f at)
+  write_of (lacks f either) at = for_all (command c) c.source.before (StopsIn c) (λ outcome. stops c outcome (f outcome) at)
+  write_of (fails fault same told r reads opens) at = cc
+  write_of (stops_in_fault fault t r same part reads) at = for_all (command c) c.source.before (StopsIn c) (λ outcome. in_fault r t same part)
 
-  pub write_cause_of : Calls command left left' R W T out out' report report' status → status ≡ 9 → W ⊎ T
-  write_cause_of (finishes outcome f is end) nine = cause outcome W T out out' report report' status f nine
-  write_cause_of (lacks f at) nine = cause usage W T out out' report report' status (f usage) nine
-  write_cause_of (fails eight is r reads opens) nine = cc
-  write_cause_of (stops_in_fault at t r same part reads) nine = inr t
+  write_cause_of : Ends → c.status ≡ final.WriteFault → Fails c.out ⊎ Fails c.report
+  write_cause_of (finishes outcome f is end) at = cause c outcome f at
+  write_cause_of (lacks f either) at = cause c usage (f usage) at
+  write_cause_of (fails fault same told r reads opens) at = cc
+  write_cause_of (stops_in_fault fault t r same part reads) at = inr t
 
-  pub want_of : Calls command left left' R W T out out' report report' status → status ≡ 10 → IsReported memory_line out out' report report'
-  want_of (finishes outcome f is end) ten = is_wanted outcome W T out out' report report' status f ten
-  want_of (lacks f at) ten = is_wanted usage W T out out' report report' status (f usage) ten
-  want_of (fails eight is r reads opens) ten = cc
-  want_of (stops_in_fault at t r same part reads) ten = cc
+  want_of : Ends → c.status ≡ final.OutOfMemory → IsReported c memory_line
+  want_of (finishes outcome f is end) at = is_wanted c outcome f at
+  want_of (lacks f either) at = is_wanted c usage (f usage) at
+  want_of (fails fault same told r reads opens) at = cc
+  want_of (stops_in_fault fault t r same part reads) at = cc
 
-  no_9 : Calls command left left' R W T out out' report report' status → ¬ W → ¬ T → status ≢ 9
-  no_9 calls no_write no_report nine = elim (write_cause_of calls nine) [ inl w ↦ no_write w | inr t ↦ no_report t ]
+  no_write : Ends → NoneFails c → c.status ≢ final.WriteFault
+  no_write ends none at = elim (write_cause_of ends at) [ inl w ↦ none.1 w | inr t ↦ none.2 t ]
 
-  no_8 : Calls command left left' R W T out out' report report' status → ¬ R → status ≢ 8
-  no_8 calls no_read eight = no_read (fault_cause calls eight).0
-
-  pub complete_of : Calls command left left' R W T out out' report report' status → ¬ R → ¬ W → ¬ T → status ≢ 10 → ForBytes command left (λ outcome. IsDone outcome out out' report report' status)
-  complete_of calls no_read no_write no_report not10 = done_of calls (no_8 calls no_read) (no_9 calls no_write no_report) not10
+  complete_of : Ends → NoneFails c → c.status ≢ final.OutOfMemory → ForBytes (command c) c.source.before (IsDone c)
+  complete_of ends none other = done_of ends (is_answer c.status (λ at. none.0 (fault_cause ends at).0) (no_write ends none) other)
 
 file_status : (t : Task) (c : Command) (bytes : List ℕ) (o : Outcome) → c.task ≡ t → OfAnswer c (length (file_of c bytes)) (reading (file_of c bytes)) o → IsValidFor c bytes → DoneBy t o.status
 file_status t c bytes o same is v =
@@ -255,10 +241,24 @@ status_by task.Shake c bytes o same is v = file_status task.Shake c bytes o same
 valid_status : (c : Command) (bytes : List ℕ) (o : Outcome) → Does (Some c) bytes o → IsValidBy c.task c bytes → DoneBy c.task o.status
 valid_status c bytes o is v = status_by c.task c bytes o refl is v
 
-pub valid_of : (command : Option Command) (left : Option (List ℕ)) (out out' report report' : Option (List ℕ)) (status : ℕ) → ForBytes command left (λ outcome. IsDone outcome out out' report report' status) → Reads command → IfSome left (λ bytes. IsValid command bytes → DoneStatus command status)
-valid_of None left out out' report report' status done reads = absurd reads
-valid_of (Some c) None out out' report report' status done reads = tt
-valid_of (Some c) (Some bytes) out out' report report' status done reads = λ valid. rw done.2.answered (valid_status c bytes done.0 done.1 valid)
+valid_of : (c : Call) (command : Option Command) (left : Option (List ℕ)) → ForBytes command left (IsDone c) → Reads command → IfSome left (λ bytes. IsValid command bytes → DoneStatus command c.status)
+valid_of c None left done reads = absurd reads
+valid_of c (Some x) None done reads = tt
+valid_of c (Some x) (Some bytes) done reads = λ valid. subst (λ (s : Status). DoneBy x.task s) (sym done.2.answered) (valid_status x bytes done.0 done.1 valid)
+
+pub claimed : (c : Call) → Calls (command c) c.source c.out c.report c.status → Claimed c
+claimed c ends = record {
+  done = done_of c ends;
+  read_to_end = end_of c ends;
+  read_fault = fault_of c ends;
+  read_cause = fault_cause c ends;
+  read_open = fault_open c ends;
+  write_fault = write_of c ends;
+  write_cause = write_cause_of c ends;
+  want = want_of c ends;
+  complete = complete_of c ends;
+  valid = λ none other reads. valid_of c (command c) c.source.before (complete_of c ends none other) reads;
+}
 
 -- ---- the ways in which a call comes to its end
 
@@ -312,7 +312,7 @@ reads_program task.Gen other = tt
 reads_program task.Trace other = tt
 reads_program task.Shake other = tt
 
-module _ (c : Command) (program : ReadsProgram c.task) (left left' : Option (List ℕ)) (lines lines' : List ℕ) (R W T : Type 0) (out out' report report' : Option (List ℕ)) (status : ℕ) where
+module _ (c : Command) (program : ReadsProgram c.task) (source out report : Device) (lines lines' : List ℕ) (status : Status) where
   read_does : (left : Option (List ℕ)) (us : List unit.Unit) (bytes : ℕ) (o : Outcome) → IfSome left (λ file. reading (file_of c file) ≡ Read us) → IfSome left (λ file. bytes ≡ length (file_of c file)) → OfRules c us bytes (first_break us) o → IfSome left (λ file. Does (Some c) file o)
   read_does None us bytes o is count does = tt
   read_does (Some file) us bytes o is count does =
@@ -325,27 +325,32 @@ module _ (c : Command) (program : ReadsProgram c.task) (left left' : Option (Lis
       let answers : OfAnswer c (length (file_of c file)) (reading (file_of c file)) (refused place why) = rw is refl in
       of_program c.task program c file (refused place why) answers
 
-  pub read_calls : (us : List unit.Unit) (bytes : ℕ) → lines ≡ behind c → IfSome (append_known left lines) (λ file. reading file ≡ Read us) → IfSome (append_known left lines) (λ file. bytes ≡ length file) → IfSome (append_known left' lines') (λ bytes. bytes ≡ []) → EndsBy (OfRules c us bytes (first_break us)) W T out out' report report' status → Calls (Some c) left left' R W T out out' report report' status
+  pub read_calls : (us : List unit.Unit) (bytes : ℕ) → lines ≡ behind c → IfSome (append_known source.before lines) (λ file. reading file ≡ Read us) → IfSome (append_known source.before lines) (λ file. bytes ≡ length file) → IfSome (append_known source.after lines') (λ bytes. bytes ≡ []) → EndsBy (OfRules c us bytes (first_break us)) out report status → Calls (Some c) source out report status
   read_calls us bytes same is count end e =
-      finishes e.outcome e.ends (read_does left us bytes e.outcome (known_file c left lines (λ file. reading file ≡ Read us) same is) (known_file c left lines (λ file. bytes ≡ length file) same count) e.is) (λ at. none_left left' lines' end)
+      finishes e.outcome e.ends (read_does source.before us bytes e.outcome (known_file c source.before lines (λ file. reading file ≡ Read us) same is) (known_file c source.before lines (λ file. bytes ≡ length file) same count) e.is) (λ at. none_left source.after lines' end)
 
-  pub refused_calls : (place : Place) (why : Reason) → lines ≡ behind c → IfSome (append_known left lines) (λ file. reading file ≡ Refuse place.element place.byte why) → Finishes (refused place why) ⊥ T out out report report' status → Calls (Some c) left left' R W T out out report report' status
+  pub refused_calls : (place : Place) (why : Reason) → lines ≡ behind c → IfSome (append_known source.before lines) (λ file. reading file ≡ Refuse place.element place.byte why) → Finishes (refused place why) out report status → Calls (Some c) source out report status
   refused_calls place why same is f =
-      finishes (refused place why) (any_write (refused place why) W T out out report report' status f) (refused_does left place why (known_file c left lines (λ file. reading file ≡ Refuse place.element place.byte why) same is)) (λ at. absurd (no_ending (refused place why) ⊥ T out out report report' status (not_1_or_2 1 (inl refl)) f at))
+      finishes (refused place why) f (refused_does source.before place why (known_file c source.before lines (λ file. reading file ≡ Refuse place.element place.byte why) same is)) (λ at. absurd (no_ending (refused place why) out report status (λ at. at) f at))
 
-pub fault_calls : (c : Command) (left left' : Option (List ℕ)) (R W T : Type 0) (out report report' : Option (List ℕ)) (status : ℕ)
-    → (status ≢ 9 → (status ≡ 8) × (report' ≡ append_known report read_fault_line)) → (status ≡ 9 → GainsPrefix report report' read_fault_line × T) → R → IfSome left (λ bytes. StaysOpen (Some c) bytes left') → Calls (Some c) left left' R W T out out report report' status
-fault_calls c left left' R W T out report report' status whole part r opens = elim (eqb_tells status 9) [
-  | inl at ↦ stops_in_fault at.1 (part at.1).1 r refl (part at.1).0 tt
-  | inr other ↦ fails (whole other.1).0 (record { wrote = refl; told = (whole other.1).1 }) r tt opens
-]
+module _ (source out report : Device) (status : Status) (same : Keeps out) where
+  pub fault_calls : (c : Command)
+      → (status ≢ final.WriteFault → (status ≡ final.ReadFault) × (report.after ≡ append_known report.before read_fault_line))
+      → (status ≡ final.WriteFault → GainsPrefix report.before report.after read_fault_line × Fails report)
+      → Fails source → IfSome source.before (λ bytes. StaysOpen (Some c) bytes source.after) → Calls (Some c) source out report status
+  fault_calls c whole part r opens = elim (write_fault_tells status) [
+    | inl at ↦ stops_in_fault at (part at).1 r same (part at).0 tt
+    | inr differs ↦ fails (whole differs).0 same (whole differs).1 r tt opens
+  ]
 
-pub program_fault_calls : (c : Command) → ReadsProgram c.task → (left left' : Option (List ℕ)) (R W T : Type 0) (out report report' : Option (List ℕ)) (status : ℕ)
-    → (status ≢ 9 → (status ≡ 8) × (report' ≡ append_known report read_fault_line)) → (status ≡ 9 → GainsPrefix report report' read_fault_line × T) → R → IfSome left (λ bytes. LeavesOpen bytes left') → Calls (Some c) left left' R W T out out report report' status
-program_fault_calls c program left left' R W T out report report' status whole part r opens = fault_calls c left left' R W T out report report' status whole part r (opens_program c.task program left left' opens)
+  pub program_fault_calls : (c : Command) → ReadsProgram c.task
+      → (status ≢ final.WriteFault → (status ≡ final.ReadFault) × (report.after ≡ append_known report.before read_fault_line))
+      → (status ≡ final.WriteFault → GainsPrefix report.before report.after read_fault_line × Fails report)
+      → Fails source → IfSome source.before (λ bytes. LeavesOpen bytes source.after) → Calls (Some c) source out report status
+  program_fault_calls c program whole part r opens = fault_calls c whole part r (opens_program c.task program source.before source.after opens)
 
-pub usage_calls : (command : Option Command) (left left' : Option (List ℕ)) (R W T : Type 0) (out report report' : Option (List ℕ)) (status : ℕ) → command ≡ None → Finishes usage ⊥ T out out report report' status → Calls command left left' R W T out out report report' status
-usage_calls command left left' R W T out report report' status is f = finishes usage (any_write usage W T out out report report' status f) (rw is refl) (λ at. absurd (no_ending usage ⊥ T out out report report' status (not_1_or_2 2 (inr refl)) f at))
+pub usage_calls : (command : Option Command) (source out report : Device) (status : Status) → command ≡ None → Finishes usage out report status → Calls command source out report status
+usage_calls command source out report status is f = finishes usage f (rw is refl) (λ at. absurd (no_ending usage out report status (λ at. at) f at))
 
-pub want_calls : (command : Option Command) (left left' : Option (List ℕ)) (R W T : Type 0) (out report report' : Option (List ℕ)) (status : ℕ) → (status ≡ 9) ⊎ (status ≡ 10) → ((outcome : Outcome) → Finishes outcome ⊥ T out out report report' status) → Calls command left left' R W T out out report report' status
-want_calls command left left' R W T out report report' status at f = lacks (λ outcome. any_write outcome W T out out report report' status (f outcome)) at
+pub want_calls : (command : Option Command) (source out report : Device) (status : Status) → (status ≡ final.WriteFault) ⊎ (status ≡ final.OutOfMemory) → ((outcome : Outcome) → Finishes outcome out report status) → Calls command source out report status
+want_calls command source out report status at f = lacks f at

@@ -5,3 +5,4 @@ pub mod SomeOutcome
 pub mod StatsLemmas
 pub mod TraceLemmas
 pub mod AuditLemmas
+pub mod StatusLemmas

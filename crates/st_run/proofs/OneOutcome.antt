@@ -15,8 +15,8 @@ use Rattle.st_machine_laws.proofs.Moments.{counts_add}
 use Rattle.st_words.specs.declared.command.Command.{Command}
 use Rattle.st_words.specs.declared.command.Task.{Task}
 use Rattle.st_words.specs.declared.command.Task.TheVariants as task
-use Rattle.st_tracer.specs.Traced.{trace_text}
-use Rattle.st_run.specs.Outcomes.{Outcome, program_for, transcript, summary, ended, audited, IsOfRun, OfAudit, OfTask}
+use Rattle.st_run.specs.declared.status.Status.{Status}
+use Rattle.st_run.specs.Outcomes.{Outcome, program_for, ending_status, transcript, trace_lines, summary, ended, audited, IsOfRun, OfAudit, OfTask}
 use Rattle.st_trace.specs.Bytes.{Audits}
 use Rattle.st_trace.specs.declared.auditing.AuditAnswer.{AuditAnswer}
 use Rattle.st_trace.proofs.Walking.{audits_once}
@@ -57,16 +57,21 @@ module _ (p : Program) where
 
 -- ---- outcomes
 
+one_status : (e e' : Ending) (s s' : Status) → e ≡ e' → ending_status e ≡ Some s → ending_status e' ≡ Some s' → s ≡ s'
+one_status e e' s s' same is is' = let both : Some s ≡ Some s' = sym is ∙ ap ending_status same ∙ is' in cc
+
 one_of_run : (c : Command) (us : List unit.Unit) (output : Ending → State → List ℕ) (o o' : Outcome) → IsOfRun c us output o → IsOfRun c us output o' → o ≡ o'
 one_of_run c us output o o' a b =
     let p = program_for c us in
     let ending : a.ending ≡ b.ending = one_ending p a.ending b.ending a.state b.state a.run.by_the_rules b.run.by_the_rules in
     let state : a.state ≡ b.state = one_state p a.ending b.ending a.state b.state a.run.by_the_rules b.run.by_the_rules in
     let count : a.instructions ≡ b.instructions = one_count p a.ending b.ending a.run.state b.run.state a.instructions b.instructions a.run.by_the_machine b.run.by_the_machine in
+    let status : a.status ≡ b.status = one_status a.ending b.ending a.status b.status ending a.answered b.answered in
     a.outcome
-    ∙ ap (λ (e : Ending). ended c us e a.state a.instructions (output e a.state)) ending
-    ∙ ap (λ (st : State). ended c us b.ending st a.instructions (output b.ending st)) state
-    ∙ ap (λ n. ended c us b.ending b.state n (output b.ending b.state)) count
+    ∙ ap (λ (e : Ending). ended c us e a.status a.state a.instructions (output e a.state)) ending
+    ∙ ap (λ (s : Status). ended c us b.ending s a.state a.instructions (output b.ending a.state)) status
+    ∙ ap (λ (st : State). ended c us b.ending b.status st a.instructions (output b.ending st)) state
+    ∙ ap (λ n. ended c us b.ending b.status b.state n (output b.ending b.state)) count
     ∙ sym b.outcome
 
 one_of_task : (t : Task) (c : Command) (us : List unit.Unit) (bytes : ℕ) (o o' : Outcome) → OfTask t c us bytes o → OfTask t c us bytes o' → o ≡ o'
@@ -75,7 +80,7 @@ one_of_task task.Check c us bytes o o' a b = a ∙ sym b
 one_of_task task.List c us bytes o o' a b = a ∙ sym b
 one_of_task task.Export c us bytes o o' a b = a ∙ sym b
 one_of_task task.Gen c us bytes o o' a b = one_of_run c us (summary us bytes) o o' a b
-one_of_task task.Trace c us bytes o o' a b = one_of_run c us trace_text o o' a b
+one_of_task task.Trace c us bytes o o' a b = one_of_run c us trace_lines o o' a b
 one_of_task task.Audit c us bytes o o' a b = a ∙ sym b
 one_of_task task.Shake c us bytes o o' a b = a ∙ sym b
 

@@ -1,6 +1,5 @@
 -- What comes of a machine whose run ended, or whose output failed.
-use Rattle.std.proofs.Common.{◌≡◌, ◌≢◌, ◌≤◌, ◌∙◌, inl, inr, ℕ, List, [], ◌++◌, length, Option, Some, codes, refl, ap, subst, arith}
-use Rattle.std.proofs.lemmas.Bool.Decides.{eqb_tells}
+use Rattle.std.proofs.Common.{◌≡◌, ◌≢◌, ◌∙◌, inl, inr, ℕ, List, [], ◌++◌, length, Option, Some, IfSome, codes, refl, ap, subst}
 use Rattle.std.specs.Io.KnownBytes.{append_known}
 use Rattle.object_heap.specs.Store.{Store}
 use Rattle.st_base.specs.declared.faults.Limits.{Limits}
@@ -14,13 +13,19 @@ use Rattle.st_machine.specs.declared.work.Ending as machine
 use Rattle.st_machine.specs.Meaning.{ending_of}
 use Rattle.st_machine.specs.Plans.{program_in}
 use Rattle.st_machine.specs.Seen.{Seen}
+use Rattle.st_run.specs.declared.status.Status.{Status}
+use Rattle.st_run.specs.declared.status.Status.TheVariants.{WriteFault}
+use Rattle.st_run.specs.Statuses.{IsEnding}
+use Rattle.st_run.specs.Devices.{Device, Fails, Keeps, Gained, GainedPart}
 use Rattle.st_run.specs.Reports.{stats_if, ending_line}
 use Rattle.st_run.specs.Outcomes.{Outcome, program_for, ending_status, line_of, transcript, summary, ended, IsOfRun}
-use Rattle.st_run.specs.Headline.{stops_in_output, stops_in_report, finished, EndsBy}
+use Rattle.st_run.specs.Ends.{stops_in_output, stops_in_report, finished, EndsBy}
 use Rattle.st_run.specs.Told.{ending_report, HasEnded}
 use Rattle.st_runner.specs.RunToEnd.{EndsAs, StopsAs}
 use Rattle.st_transcript.specs.Unhandled.{unhandled_text}
 use Rattle.st_runner.proofs.Unhandled.{unhandled-same}
+use Rattle.st_run.proofs.SomeOutcome.{has_status}
+use Rattle.st_run.proofs.StatusLemmas.{ending_answers, write_fault_tells}
 
 -- ---- the report
 
@@ -38,32 +43,26 @@ pub report_pieces : (c : Command) (s : Seen) (e : machine.Ending) → ending_rep
 unfolding ending_report
 report_pieces c s e = refl
 
--- ---- the status
-
-pub within_7 : (e : Ending) → ending_status e ≤ 7
-within_7 Done = omega arith
-within_7 (Unhandled v) = omega arith
-within_7 (AtLimit StepLimit) = omega arith
-within_7 (AtLimit DepthLimit) = omega arith
-within_7 (AtLimit CellLimit) = omega arith
-within_7 (AtLimit IntegerLimit) = omega arith
-within_7 Stuck = omega arith
-
-pub is_not : (status k n : ℕ) → status ≡ k → k ≤ 7 → 8 ≤ n → status ≢ n
-is_not status k n is most least = λ at. omega (arith, is, most, least, at)
-
 -- ---- a run that ended
 
+answers : (by : Option Status) (s status : Status) → by ≡ Some s → IfSome by (λ x. status ≡ x) → status ≡ s
+answers by s status is same = rw is at same
+
 module _ (c : Command) (us : List unit.Unit) (e : machine.Ending) (s : Seen) (old new : Option (List ℕ)) (ends : EndsAs (program_for c us) (ending_of e) s old new) (output : Ending → State → List ℕ) where
+  abbrev status_of : (s : Status) × (ending_status (ending_of e) ≡ Some s)
+  status_of = has_status (program_for c us) (ending_of e) ends.state ends.by_the_rules
+
   abbrev outcome_of : Outcome
-  outcome_of = ended c us (ending_of e) ends.state ends.instructions (output (ending_of e) ends.state)
+  outcome_of = ended c us (ending_of e) status_of.0 ends.state ends.instructions (output (ending_of e) ends.state)
 
   is_of_run : IsOfRun c us output outcome_of
   is_of_run = record {
     ending = ending_of e;
     state = ends.state;
     instructions = ends.instructions;
+    status = status_of.0;
     run = record { by_the_rules = ends.by_the_rules; state = ends.flat; by_the_machine = ends.by_the_machine };
+    answered = status_of.1;
     outcome = refl;
   }
 
@@ -79,54 +78,54 @@ module _ (c : Command) (us : List unit.Unit) (e : machine.Ending) (s : Seen) (ol
       ∙ ap (λ (t : List ℕ). t ++ ending_line (program_in s.plan) c.limits s.memory.store (ending_of e)) same_stats
       ∙ ap (λ (t : List ℕ). stats_if c.stats ends.state.steps ends.state.depth ends.state.cells ends.instructions ++ t) same_line
 
-  pub reported : (W T : Type 0) (out out' report report' : Option (List ℕ)) (status : ℕ) → out' ≡ append_known out (output (ending_of e) ends.state)
-      → (status ≢ 9 → (status ≡ ending_status (ending_of e)) × (report' ≡ append_known report (ending_report c s e)))
-      → (status ≡ 9 → GainsPrefix report report' (ending_report c s e) × T)
-      → EndsBy (IsOfRun c us output) W T out out' report report' status
-  reported W T out out' report report' status wrote whole part = elim (eqb_tells status 9) [
+  pub reported : (out report : Device) (status : Status) → Gained out (output (ending_of e) ends.state)
+      → (status ≢ WriteFault → IsEnding status × IfSome (ending_status (ending_of e)) (λ x. status ≡ x) × (report.after ≡ append_known report.before (ending_report c s e)))
+      → (status ≡ WriteFault → GainsPrefix report.before report.after (ending_report c s e) × Fails report)
+      → EndsBy (IsOfRun c us output) out report status
+  reported out report status wrote whole part = elim (write_fault_tells status) [
     | inl at ↦ record {
       outcome = outcome_of;
       is = is_of_run;
-      ends = stops_in_report at.1 (part at.1).1 wrote (subst (λ (t : List ℕ). GainsPrefix report report' t) same_report (part at.1).0);
+      ends = stops_in_report at (part at).1 wrote (subst (λ (t : List ℕ). GainsPrefix report.before report.after t) same_report (part at).0);
     }
-    | inr other ↦ record {
+    | inr differs ↦ record {
       outcome = outcome_of;
       is = is_of_run;
-      ends = finished (record { wrote = wrote; told = (whole other.1).1 ∙ ap (append_known report) same_report; answered = (whole other.1).0 })
-          (is_not status (ending_status (ending_of e)) 8 (whole other.1).0 (within_7 (ending_of e)) (omega arith))
-          (is_not status (ending_status (ending_of e)) 9 (whole other.1).0 (within_7 (ending_of e)) (omega arith))
-          (is_not status (ending_status (ending_of e)) 10 (whole other.1).0 (within_7 (ending_of e)) (omega arith));
+      ends = finished wrote ((whole differs).2 ∙ ap (append_known report.before) same_report) (answers (ending_status (ending_of e)) status_of.0 status status_of.1 (whole differs).1) (ending_answers status (whole differs).0);
     }
   ]
 
   -- the output failed, of which this was to be written
-  pub cut_short : (W T : Type 0) (out out' report : Option (List ℕ)) (status : ℕ) → W → GainsPrefix out out' (output (ending_of e) ends.state) → status ≡ 9 → EndsBy (IsOfRun c us output) W T out out' report report status
-  cut_short W T out out' report status w part nine = record { outcome = outcome_of; is = is_of_run; ends = stops_in_output nine w part refl }
+  pub cut_short : (out report : Device) (status : Status) → Keeps report → Fails out → GainedPart out (output (ending_of e) ends.state) → status ≡ WriteFault → EndsBy (IsOfRun c us output) out report status
+  cut_short out report status same w part fault = record { outcome = outcome_of; is = is_of_run; ends = stops_in_output fault w part same }
 
 -- ---- `run`
 
-module _ (c : Command) (us : List unit.Unit) (p : Program) (same : p ≡ program_for c us) (W T : Type 0) (out out' : Option (List ℕ)) where
-  pub ran : (e : machine.Ending) (s : Seen) (report report' : Option (List ℕ)) (status : ℕ) → EndsAs p (ending_of e) s out out'
-      → (status ≢ 9 → (status ≡ ending_status (ending_of e)) × (report' ≡ append_known report (ending_report c s e)))
-      → (status ≡ 9 → GainsPrefix report report' (ending_report c s e) × T)
-      → EndsBy (IsOfRun c us transcript) W T out out' report report' status
-  ran e s report report' status ends whole part =
-      let of_it : EndsAs (program_for c us) (ending_of e) s out out' = subst (λ (q : Program). EndsAs q (ending_of e) s out out') same ends in
-      reported c us e s out out' of_it transcript W T out out' report report' status of_it.wrote whole part
+module _ (c : Command) (us : List unit.Unit) (p : Program) (same : p ≡ program_for c us) (out report : Device) (status : Status) where
+  pub ran : (e : machine.Ending) (s : Seen) → EndsAs p (ending_of e) s out.before out.after
+      → (status ≢ WriteFault → IsEnding status × IfSome (ending_status (ending_of e)) (λ x. status ≡ x) × (report.after ≡ append_known report.before (ending_report c s e)))
+      → (status ≡ WriteFault → GainsPrefix report.before report.after (ending_report c s e) × Fails report)
+      → EndsBy (IsOfRun c us transcript) out report status
+  ran e s ends whole part =
+      let of_it : EndsAs (program_for c us) (ending_of e) s out.before out.after = subst (λ (q : Program). EndsAs q (ending_of e) s out.before out.after) same ends in
+      reported c us e s out.before out.after of_it transcript out report status of_it.wrote whole part
 
-  pub stopped : (report : Option (List ℕ)) (status : ℕ) → StopsAs p out out' → W → status ≡ 9 → EndsBy (IsOfRun c us transcript) W T out out' report report status
-  stopped report status stops w nine =
-      let of_it : StopsAs (program_for c us) out out' = subst (λ (q : Program). StopsAs q out out') same stops in
+  pub stopped : Keeps report → StopsAs p out.before out.after → Fails out → status ≡ WriteFault → EndsBy (IsOfRun c us transcript) out report status
+  stopped kept stops w fault =
+      let of_it : StopsAs (program_for c us) out.before out.after = subst (λ (q : Program). StopsAs q out.before out.after) same stops in
+      let by = has_status (program_for c us) of_it.ending of_it.state of_it.by_the_rules in
       record {
-        outcome = ended c us of_it.ending of_it.state of_it.instructions of_it.state.transcript;
+        outcome = ended c us of_it.ending by.0 of_it.state of_it.instructions of_it.state.transcript;
         is = record {
           ending = of_it.ending;
           state = of_it.state;
           instructions = of_it.instructions;
+          status = by.0;
           run = record { by_the_rules = of_it.by_the_rules; state = of_it.flat; by_the_machine = of_it.by_the_machine };
+          answered = by.1;
           outcome = refl;
         };
-        ends = stops_in_output nine w of_it.part refl;
+        ends = stops_in_output fault w of_it.part kept;
       }
 
 -- ---- `gen`
@@ -149,13 +148,13 @@ module _ (c : Command) (us : List unit.Unit) (bytes count : ℕ) (e : machine.En
       ∙ ap (λ n. line_of (length us) bytes n s.steps (ending_of e)) (h.count ∙ ap length (same_text_of h.text h.ends.state.transcript h.ends.wrote))
       ∙ ap (λ n. line_of (length us) bytes (length h.ends.state.transcript) n (ending_of e)) h.ends.steps
 
-  pub summed : (W T : Type 0) (out out' report report' : Option (List ℕ)) (status : ℕ) → out' ≡ append_known out line
-      → (status ≢ 9 → (status ≡ ending_status (ending_of e)) × (report' ≡ append_known report (ending_report c s e)))
-      → (status ≡ 9 → GainsPrefix report report' (ending_report c s e) × T)
-      → EndsBy (IsOfRun c us (summary us bytes)) W T out out' report report' status
-  summed W T out out' report report' status wrote whole part =
-      reported c us e s (Some []) (Some h.text) h.ends (summary us bytes) W T out out' report report' status (wrote ∙ ap (append_known out) same_summary) whole part
+  pub summed : (out report : Device) (status : Status) → Gained out line
+      → (status ≢ WriteFault → IsEnding status × IfSome (ending_status (ending_of e)) (λ x. status ≡ x) × (report.after ≡ append_known report.before (ending_report c s e)))
+      → (status ≡ WriteFault → GainsPrefix report.before report.after (ending_report c s e) × Fails report)
+      → EndsBy (IsOfRun c us (summary us bytes)) out report status
+  summed out report status wrote whole part =
+      reported c us e s (Some []) (Some h.text) h.ends (summary us bytes) out report status (wrote ∙ ap (append_known out.before) same_summary) whole part
 
-  pub summed_part : (W T : Type 0) (out out' report : Option (List ℕ)) (status : ℕ) → W → GainsPrefix out out' line → status ≡ 9 → EndsBy (IsOfRun c us (summary us bytes)) W T out out' report report status
-  summed_part W T out out' report status w part nine =
-      cut_short c us e s (Some []) (Some h.text) h.ends (summary us bytes) W T out out' report status w (subst (λ (t : List ℕ). GainsPrefix out out' t) same_summary part) nine
+  pub summed_part : (out report : Device) (status : Status) → Keeps report → Fails out → GainedPart out line → status ≡ WriteFault → EndsBy (IsOfRun c us (summary us bytes)) out report status
+  summed_part out report status kept w part fault =
+      cut_short c us e s (Some []) (Some h.text) h.ends (summary us bytes) out report status kept w (subst (λ (t : List ℕ). GainsPrefix out.before out.after t) same_summary part) fault

@@ -1,5 +1,5 @@
 -- Each command has an outcome for each input: each program has a run by the rules, and the flat machine makes it.
-use Rattle.std.proofs.Common.{inl, inr, ℕ, List, [], length, Option, None, Some, refl, arith}
+use Rattle.std.proofs.Common.{◌≡◌, ℕ, List, [], length, Option, None, Some, refl, sym, subst}
 use Rattle.st_tree.specs.declared.units.Unit as unit
 use Rattle.sif_elements.specs.Reading.{Answer, Read, Refuse}
 use Rattle.sif_elements.specs.Steps.{reading}
@@ -7,7 +7,8 @@ use Rattle.st_checks.specs.StaticRules.{Break, first_break}
 use Rattle.st_code.specs.Written.{named_units}
 use Rattle.program_image.specs.Spelled.{names_in}
 use Rattle.st_rules.specs.State.{State, StepLimit, DepthLimit, CellLimit, IntegerLimit}
-use Rattle.st_rules.specs.Runs.{Ending, Done, Unhandled, AtLimit, Stuck}
+use Rattle.st_rules.specs.Runs.{Ending, Done, Unhandled, AtLimit, Stuck, Runs}
+use Rattle.st_rules.proofs.NeverStuck.{rules_never_stuck}
 use Rattle.st_rules.proofs.SomeRun.{rules_end}
 use Rattle.st_rules.proofs.SameRun.{flat_run_is_the_rules_run}
 use Rattle.st_words.specs.declared.command.Command.{Command}
@@ -16,23 +17,39 @@ use Rattle.st_words.specs.declared.command.Task.TheVariants as task
 use Rattle.st_answers.specs.Listing.{ok_line, listing}
 use Rattle.sif_export.specs.ExportText.{export_text}
 use Rattle.st_shake.specs.Shaken.{shaken}
-use Rattle.st_tracer.specs.Traced.{trace_text}
-use Rattle.st_run.specs.Outcomes.{Outcome, done, refused, usage, program_for, ending_status, transcript, summary, ended, audited, IsOfRun, OfTask, IsEnding, DoneBy}
+use Rattle.st_code.specs.Program.{Program}
+use Rattle.st_run.specs.declared.status.Status.{Status}
+use Rattle.st_run.specs.declared.status.Status.TheVariants as final
+use Rattle.st_run.specs.Statuses.{IsEnding}
+use Rattle.st_run.specs.Outcomes.{Outcome, done, refused, usage, program_for, ending_status, transcript, trace_lines, summary, ended, audited, IsOfRun, OfTask, DoneBy}
 use Rattle.st_trace.specs.Audit.{audit_of}
 use Rattle.st_trace.proofs.Walking.{audits_each}
 use Rattle.st_run.specs.Commands.{place_at, OfInput, OfRules, OfAnswer, SomeOutcome, file_of}
+
+-- each run has a status, since none is stuck
+pub has_status : (p : Program) (e : Ending) (st : State) → Runs p e st → (s : Status) × (ending_status e ≡ Some s)
+has_status p Done st runs = (final.Done, refl)
+has_status p (Unhandled exception) st runs = (final.Unhandled, refl)
+has_status p (AtLimit StepLimit) st runs = (final.StepLimit, refl)
+has_status p (AtLimit DepthLimit) st runs = (final.DepthLimit, refl)
+has_status p (AtLimit CellLimit) st runs = (final.CellLimit, refl)
+has_status p (AtLimit IntegerLimit) st runs = (final.IntegerLimit, refl)
+has_status p Stuck st runs = absurd (rules_never_stuck p st runs)
 
 pub some_of_run : (c : Command) (us : List unit.Unit) (output : Ending → State → List ℕ) → (o : Outcome) × IsOfRun c us output o
 some_of_run c us output =
     let p = program_for c us in
     let r = rules_end p in
+    let s = has_status p r.0 r.1 r.2 in
     let m = (flat_run_is_the_rules_run (names_in (named_units us)) (named_units us) (record { steps = c.limits.steps; depth = c.limits.depth; cells = c.limits.cells })).of_the_rules r.0 r.1 r.2 in (
-      ended c us r.0 r.1 m.1 (output r.0 r.1),
+      ended c us r.0 s.0 r.1 m.1 (output r.0 r.1),
       record {
         ending = r.0;
         state = r.1;
         instructions = m.1;
+        status = s.0;
         run = record { by_the_rules = r.2; state = m.0; by_the_machine = m.2 };
+        answered = s.1;
         outcome = refl;
       },
     )
@@ -43,7 +60,7 @@ some_of_task task.Check c us bytes = (done (ok_line us), refl)
 some_of_task task.List c us bytes = (done (listing us), refl)
 some_of_task task.Export c us bytes = (done (export_text us), refl)
 some_of_task task.Gen c us bytes = some_of_run c us (summary us bytes)
-some_of_task task.Trace c us bytes = some_of_run c us trace_text
+some_of_task task.Trace c us bytes = some_of_run c us trace_lines
 some_of_task task.Audit c us bytes = (done [], refl)
 some_of_task task.Shake c us bytes = (done (export_text (shaken us)), refl)
 
@@ -71,17 +88,20 @@ some_outcome (Some c) bytes = some_of_input c.task c bytes
 
 -- ---- statuses
 
-ending_is : (e : Ending) → IsEnding (ending_status e)
-ending_is Done = inl refl
-ending_is (Unhandled v) = inr (omega arith, omega arith)
-ending_is (AtLimit StepLimit) = inr (omega arith, omega arith)
-ending_is (AtLimit DepthLimit) = inr (omega arith, omega arith)
-ending_is (AtLimit CellLimit) = inr (omega arith, omega arith)
-ending_is (AtLimit IntegerLimit) = inr (omega arith, omega arith)
-ending_is Stuck = inr (omega arith, omega arith)
+same_status : (s t : Status) → Some s ≡ Some t → s ≡ t
+same_status s t is = cc
+
+ending_is : (e : Ending) (s : Status) → ending_status e ≡ Some s → IsEnding s
+ending_is Done s is = subst IsEnding (same_status final.Done s is) tt
+ending_is (Unhandled v) s is = subst IsEnding (same_status final.Unhandled s is) tt
+ending_is (AtLimit StepLimit) s is = subst IsEnding (same_status final.StepLimit s is) tt
+ending_is (AtLimit DepthLimit) s is = subst IsEnding (same_status final.DepthLimit s is) tt
+ending_is (AtLimit CellLimit) s is = subst IsEnding (same_status final.CellLimit s is) tt
+ending_is (AtLimit IntegerLimit) s is = subst IsEnding (same_status final.IntegerLimit s is) tt
+ending_is Stuck s is = cc
 
 run_status : (c : Command) (us : List unit.Unit) (output : Ending → State → List ℕ) (o : Outcome) → IsOfRun c us output o → IsEnding o.status
-run_status c us output o r = rw r.outcome (ending_is r.ending)
+run_status c us output o r = subst (λ (x : Outcome). IsEnding x.status) (sym r.outcome) (ending_is r.ending r.status r.answered)
 
 pub of_task_status : (t : Task) (c : Command) (us : List unit.Unit) (bytes : ℕ) (o : Outcome) → OfTask t c us bytes o → DoneBy t o.status
 of_task_status task.Run c us bytes o is = run_status c us transcript o is
@@ -89,6 +109,6 @@ of_task_status task.Check c us bytes o is = rw is refl
 of_task_status task.List c us bytes o is = rw is refl
 of_task_status task.Export c us bytes o is = rw is refl
 of_task_status task.Gen c us bytes o is = run_status c us (summary us bytes) o is
-of_task_status task.Trace c us bytes o is = run_status c us trace_text o is
+of_task_status task.Trace c us bytes o is = run_status c us trace_lines o is
 of_task_status task.Audit c us bytes o is = rw is refl
 of_task_status task.Shake c us bytes o is = rw is refl

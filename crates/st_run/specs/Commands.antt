@@ -13,6 +13,7 @@ use Rattle.st_gen.specs.Generated.{generated}
 use Rattle.st_trace.specs.Answering.{LeavesAuditOpen}
 use Rattle.st_trace.specs.Bytes.{Audits}
 use Rattle.st_trace.specs.declared.auditing.AuditAnswer.TheVariants as audit
+use Rattle.st_run.specs.declared.status.Status.{Status}
 use Rattle.st_run.specs.Outcomes.{Outcome, refused, usage, OfAudit, OfTask, DoneBy}
 
 abbrev pub place_at : ℕ → ℕ → Place
@@ -50,7 +51,8 @@ abbrev pub Does : Option Command → List ℕ → Outcome → Type 0
 Does None bytes o = o ≡ usage
 Does (Some c) bytes o = OfInput c.task c bytes o
 
--- for each command that reads, where its source tells its bytes, this holds of an outcome of it; and for words that are no command
+-- for each command that reads, where its source tells its bytes, this holds of an outcome of it;
+-- and for words that are no command
 abbrev pub ForBytes : Option Command → Option (List ℕ) → (Outcome → Type 0) → Type 0
 ForBytes None left P = (o : Outcome) × Does None [] o × P o
 ForBytes (Some c) left P = IfSome left (λ bytes. (o : Outcome) × Does (Some c) bytes o × P o)
@@ -94,7 +96,7 @@ ReadsProgram task.Audit = ⊥
 ReadsProgram _ = Unit {0}
 
 -- the status of a command that is done with an input that it takes
-abbrev pub DoneStatus : Option Command → (status : ℕ) → Type 0
+abbrev pub DoneStatus : Option Command → Status → Type 0
 DoneStatus None status = ⊥
 DoneStatus (Some c) status = DoneBy c.task status
 
@@ -106,4 +108,5 @@ SomeOutcome = (command : Option Command) (bytes : List ℕ) → (o : Outcome) ×
 
 -- and one only
 abbrev pub OneOutcome : Type 0
-OneOutcome = (command : Option Command) (bytes : List ℕ) (o o' : Outcome) → Does command bytes o → Does command bytes o' → o ≡ o'
+OneOutcome =
+    (command : Option Command) (bytes : List ℕ) (o o' : Outcome) → Does command bytes o → Does command bytes o' → o ≡ o'

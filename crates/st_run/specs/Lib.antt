@@ -1,5 +1,8 @@
+pub mod Statuses
+pub mod Devices
 pub mod Reports
 pub mod Outcomes
 pub mod Commands
-pub mod Headline
+pub mod Claim
+pub mod Ends
 pub mod Told

@@ -43,7 +43,8 @@ reason_word NotAssignable = codes "NotAssignable"
 
 abbrev pub refused_line : Place → Reason → List ℕ
 refused_line place reason =
-    codes "stx: refused element " ++ decimal place.element ++ codes " byte " ++ decimal place.byte ++ codes " " ++ reason_word reason ++ codes "\n"
+    codes "stx: refused element " ++ decimal place.element ++ codes " byte " ++ decimal place.byte
+    ++ codes " " ++ reason_word reason ++ codes "\n"
 
 abbrev pub usage_line : List ℕ
 usage_line = codes "stx: usage: stx [options] run|check|list|export|gen|trace|audit|shake\n"
@@ -75,7 +76,8 @@ disciplined_line lines = codes "disciplined " ++ decimal lines ++ codes " events
 -- the steps, the greatest depth, the cells and the instructions of a run
 unfoldable pub stats_line : (steps depth cells instructions : ℕ) → List ℕ
 stats_line steps depth cells instructions =
-    codes "stx: steps " ++ decimal steps ++ codes " depth " ++ decimal depth ++ codes " cells " ++ decimal cells ++ codes " instructions " ++ decimal instructions ++ codes "\n"
+    codes "stx: steps " ++ decimal steps ++ codes " depth " ++ decimal depth ++ codes " cells " ++ decimal cells
+    ++ codes " instructions " ++ decimal instructions ++ codes "\n"
 
 -- only where they are asked for
 abbrev pub stats_if : Bool → (steps depth cells instructions : ℕ) → List ℕ
@@ -89,7 +91,8 @@ limit_line word limit = word ++ decimal limit ++ codes "\n"
 -- what is reported of an ending, of a program with this store at its end; `Stuck` comes never
 abbrev pub ending_line : Program → Limits → Store → Ending → List ℕ
 ending_line p limits store Done = []
-ending_line p limits store (Unhandled exception) = codes "stx: unhandled " ++ unhandled_text p store exception ++ codes "\n"
+ending_line p limits store (Unhandled exception) =
+    codes "stx: unhandled " ++ unhandled_text p store exception ++ codes "\n"
 ending_line p limits store (AtLimit StepLimit) = limit_line (codes "stx: step limit ") limits.steps
 ending_line p limits store (AtLimit DepthLimit) = limit_line (codes "stx: depth limit ") limits.depth
 ending_line p limits store (AtLimit CellLimit) = limit_line (codes "stx: cell limit ") limits.cells

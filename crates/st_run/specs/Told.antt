@@ -12,7 +12,9 @@ use Rattle.st_runner.specs.RunToEnd.{EndsAs}
 
 -- the statistics where they are asked for, and the line of the ending
 unfoldable pub ending_report : Command → Seen → Ending → List ℕ
-ending_report c s e = stats_if c.stats s.steps s.deepest s.memory.used s.instructions ++ ending_line (program_in s.plan) c.limits s.memory.store (ending_of e)
+ending_report c s e =
+    stats_if c.stats s.steps s.deepest s.memory.used s.instructions
+    ++ ending_line (program_in s.plan) c.limits s.memory.store (ending_of e)
 
 -- the run of the program that these units are has ended so, with a Transcript of so many bytes
 pub record HasEnded (c : Command) (us : List unit.Unit) (s : Seen) (e : Ending) (transcript : ℕ) : Type 0 where

@@ -1,14 +1,15 @@
 // What `audit` does with a trace.
-ghost use Rattle.std.specs.Prelude.{◌≡◌, IfOk, List, Option, Some, ℕ};
-ghost use Rattle.st_base.specs.Streams.{Rose};
+ghost use Rattle.std.specs.Prelude.{◌≡◌, IfOk, Some};
 ghost use Rattle.st_words.specs.declared.command.Task.TheVariants.{Audit};
 ghost use Rattle.st_trace.specs.declared.auditing.AuditAnswer.TheVariants as audit_answer;
 ghost use Rattle.st_run.specs.Reports.{audit_line, audit_word, disciplined_line};
 ghost use Rattle.st_run.specs.Outcomes.{audited};
-ghost use Rattle.st_run.specs.Headline.{Calls, Finishes};
+ghost use Rattle.st_run.specs.Devices.{Device, device, Keeps};
+ghost use Rattle.st_run.specs.Ends.{Calls, Finishes};
 
 use crate::finish::{report_want_of_memory, tell, write_made};
 use crate::report::READ_FAULT;
+use crate::status::Status;
 use itoa::Buffer;
 use st_base::{OutOfMemory, Sink, Source};
 use st_trace::{AuditAnswer, AuditReason, audit};
@@ -52,11 +53,12 @@ fn disciplined_line(alloc: Global, lines: u64) -> Result<Vec<u8>, OutOfMemory>
 }
 
 // Reports the first line that can't stand.
-fn refuse_trace<E: Sink>(alloc: Global, line: u64, reason: AuditReason, report: &mut E) -> u8
-    ensures { (out : Option (List ℕ)) → Finishes (audited (audit_answer.Refused line reason)) ⊥ (Rose (E.faults report.old) (E.faults report.new)) out out (E.written report.old) (E.written report.new) result }
+fn refuse_trace<E: Sink>(alloc: Global, line: u64, reason: AuditReason, report: &mut E) -> Status
+    ensures { (out : Device) → Keeps out → Finishes (audited (audit_answer.Refused line reason)) out
+        (device (E.written report.old) (E.faults report.old) (E.written report.new) (E.faults report.new)) result }
 {
     match audit_line(alloc, line, reason) {
-        Ok(line) => tell(report, line.as_slice(), 11),
+        Ok(line) => tell(report, line.as_slice(), Status::Undisciplined),
         Err(_) => report_want_of_memory(report),
     }
 }
@@ -68,15 +70,17 @@ pub(crate) fn audit_trace<S: Source, K: Sink, E: Sink>(
     source: &mut S,
     out: &mut K,
     report: &mut E,
-) -> u8
+) -> Status
     requires { command.task ≡ Audit }
-    ensures { Calls (Some command) (S.left source.old) (S.left source.new) (Rose (S.faults source.old) (S.faults source.new)) (Rose (K.faults out.old) (K.faults out.new)) (Rose (E.faults report.old) (E.faults report.new))
-        (K.written out.old) (K.written out.new) (E.written report.old) (E.written report.new) result }
+    ensures { Calls (Some command)
+        (device (S.left source.old) (S.faults source.old) (S.left source.new) (S.faults source.new))
+        (device (K.written out.old) (K.faults out.old) (K.written out.new) (K.faults out.new))
+        (device (E.written report.old) (E.faults report.old) (E.written report.new) (E.faults report.new)) result }
 {
     match audit(alloc, source) {
         AuditAnswer::Disciplined(lines) => write_made(disciplined_line(alloc, lines), out, report),
         AuditAnswer::Refused(line, reason) => refuse_trace(alloc, line, reason, report),
-        AuditAnswer::ReadFault => tell(report, READ_FAULT, 8),
+        AuditAnswer::ReadFault => tell(report, READ_FAULT, Status::ReadFault),
         AuditAnswer::OutOfMemory => report_want_of_memory(report),
     }
 }

@@ -1,5 +1,5 @@
 // The ends of a call: what is written, and the status.
-ghost use Rattle.std.specs.Prelude.{◌≡◌, ◌≢◌, ◌⊎◌, ◌<◌, ◌^◌, ◌-◌, ℕ, List, Option, IfOk};
+ghost use Rattle.std.specs.Prelude.{◌≡◌, ◌≢◌, ◌⊎◌, ◌<◌, ◌^◌, ◌-◌, ℕ, List, IfOk};
 ghost use Rattle.std.specs.Io.KnownBytes.{append_known};
 ghost use Rattle.st_base.specs.Streams.{Rose, GainsPrefix};
 ghost use Rattle.st_tree.specs.Numbers.{elements_in};
@@ -10,11 +10,14 @@ ghost use Rattle.st_shake.specs.Shaken.{shaken};
 ghost use Rattle.st_words.specs.CommandLine.{IsInBounds};
 ghost use Rattle.st_run.specs.Outcomes.{Outcome, done, refused, usage, OfTask};
 ghost use Rattle.st_run.specs.Commands.{OfRules};
-ghost use Rattle.st_run.specs.Headline.{EndsBy, Finishes};
+ghost use Rattle.st_run.specs.declared.status.Status.TheVariants as statuses;
+ghost use Rattle.st_run.specs.Devices.{Device, device, Keeps};
+ghost use Rattle.st_run.specs.Ends.{EndsBy, Finishes};
 
 use crate::generating::generate;
 use crate::report::{OUT_OF_MEMORY, USAGE, refusal};
 use crate::running::run;
+use crate::status::Status;
 use crate::tracing::trace;
 use sif_export::export;
 use st_answers::{listing, ok_line};
@@ -25,59 +28,67 @@ use st_tree::units::Definition;
 use st_words::{Command, Task};
 use std::alloc::Global;
 
-// Reports a line, and answers the status, or that of a write fault.
-pub(crate) fn tell<E: Sink>(report: &mut E, line: &[u8], status: u8) -> u8
-    ensures told { result ≢ 9 → (result ≡ status) × (E.written report.new ≡ append_known (E.written report.old) line.now) }
-    ensures part { status ≢ 9 → result ≡ 9 → GainsPrefix (E.written report.old) (E.written report.new) line.now × Rose (E.faults report.old) (E.faults report.new) }
+// Reports a line, and answers the status, or a write fault.
+pub(crate) fn tell<E: Sink>(report: &mut E, line: &[u8], status: Status) -> Status
+    ensures told { result ≢ statuses.WriteFault
+        → (result ≡ status) × (E.written report.new ≡ append_known (E.written report.old) line.now) }
+    ensures part { status ≢ statuses.WriteFault → result ≡ statuses.WriteFault
+        → GainsPrefix (E.written report.old) (E.written report.new) line.now
+        × Rose (E.faults report.old) (E.faults report.new) }
 {
     match put_all(report, line) {
         Ok(()) => status,
-        Err(_) => 9,
+        Err(_) => Status::WriteFault,
     }
 }
 
-/// Reports want of memory, and answers the status 10, or 9 where the report failed.
-pub fn report_want_of_memory<E: Sink>(report: &mut E) -> u8
-    ensures status { (result ≡ 9) ⊎ (result ≡ 10) }
-    ensures finishes { (outcome : Outcome) (out : Option (List ℕ)) → Finishes outcome ⊥ (Rose (E.faults report.old) (E.faults report.new)) out out (E.written report.old) (E.written report.new) result }
+/// Reports want of memory, and answers it, or a write fault where the report failed.
+pub fn report_want_of_memory<E: Sink>(report: &mut E) -> Status
+    ensures status { (result ≡ statuses.WriteFault) ⊎ (result ≡ statuses.OutOfMemory) }
+    ensures finishes { (outcome : Outcome) (out : Device) → Keeps out → Finishes outcome out
+        (device (E.written report.old) (E.faults report.old) (E.written report.new) (E.faults report.new)) result }
 {
-    tell(report, OUT_OF_MEMORY, 10)
+    tell(report, OUT_OF_MEMORY, Status::OutOfMemory)
 }
 
 /// Reports that the words are no command.
-pub(crate) fn report_usage<E: Sink>(report: &mut E) -> u8
-    ensures { (out : Option (List ℕ)) → Finishes usage ⊥ (Rose (E.faults report.old) (E.faults report.new)) out out (E.written report.old) (E.written report.new) result }
+pub(crate) fn report_usage<E: Sink>(report: &mut E) -> Status
+    ensures { (out : Device) → Keeps out → Finishes usage out
+        (device (E.written report.old) (E.faults report.old) (E.written report.new) (E.faults report.new)) result }
 {
-    tell(report, USAGE, 2)
+    tell(report, USAGE, Status::Usage)
 }
 
 /// Reports a refusal.
-pub(crate) fn refuse<E: Sink>(alloc: Global, place: Place, reason: Reason, report: &mut E) -> u8
-    ensures { (out : Option (List ℕ)) → Finishes (refused place reason) ⊥ (Rose (E.faults report.old) (E.faults report.new)) out out (E.written report.old) (E.written report.new) result }
+pub(crate) fn refuse<E: Sink>(alloc: Global, place: Place, reason: Reason, report: &mut E) -> Status
+    ensures { (out : Device) → Keeps out → Finishes (refused place reason) out
+        (device (E.written report.old) (E.faults report.old) (E.written report.new) (E.faults report.new)) result }
 {
     match refusal(alloc, place, reason) {
-        Ok(line) => tell(report, line.as_slice(), 1),
+        Ok(line) => tell(report, line.as_slice(), Status::Refused),
         Err(_) => report_want_of_memory(report),
     }
 }
 
-// Writes the output, and answers the status 0, or that of a write fault.
-fn write_out<K: Sink>(out: &mut K, bytes: &[u8]) -> u8
-    ensures { (report : Option (List ℕ)) → Finishes (done bytes.now) (Rose (K.faults out.old) (K.faults out.new)) ⊥ (K.written out.old) (K.written out.new) report report result }
+// Writes the output, and answers that the command is done, or a write fault.
+fn write_out<K: Sink>(out: &mut K, bytes: &[u8]) -> Status
+    ensures { (report : Device) → Keeps report → Finishes (done bytes.now)
+        (device (K.written out.old) (K.faults out.old) (K.written out.new) (K.faults out.new)) report result }
 {
     match put_all(out, bytes) {
-        Ok(()) => 0,
-        Err(_) => 9,
+        Ok(()) => Status::Done,
+        Err(_) => Status::WriteFault,
     }
 }
 
-// Writes the canonical text, and answers the status 0, or that of a write fault.
-fn write_text<K: Sink>(out: &mut K, definition: &Definition) -> u8
-    ensures { (report : Option (List ℕ)) → Finishes (done (export_text definition.now.units)) (Rose (K.faults out.old) (K.faults out.new)) ⊥ (K.written out.old) (K.written out.new) report report result }
+// Writes the canonical text, and answers that the command is done, or a write fault.
+fn write_text<K: Sink>(out: &mut K, definition: &Definition) -> Status
+    ensures { (report : Device) → Keeps report → Finishes (done (export_text definition.now.units))
+        (device (K.written out.old) (K.faults out.old) (K.written out.new) (K.faults out.new)) report result }
 {
     match export(definition, out) {
-        Ok(()) => 0,
-        Err(_) => 9,
+        Ok(()) => Status::Done,
+        Err(_) => Status::WriteFault,
     }
 }
 
@@ -87,8 +98,10 @@ fn write_shaken<K: Sink, E: Sink>(
     definition: &Definition,
     out: &mut K,
     report: &mut E,
-) -> u8
-    ensures { Finishes (done (export_text (shaken definition.now.units))) (Rose (K.faults out.old) (K.faults out.new)) (Rose (E.faults report.old) (E.faults report.new)) (K.written out.old) (K.written out.new) (E.written report.old) (E.written report.new) result }
+) -> Status
+    ensures { Finishes (done (export_text (shaken definition.now.units)))
+        (device (K.written out.old) (K.faults out.old) (K.written out.new) (K.faults out.new))
+        (device (E.written report.old) (E.faults report.old) (E.written report.new) (E.faults report.new)) result }
 {
     match shake(alloc, definition) {
         Ok(smaller) => write_text(out, &smaller),
@@ -101,8 +114,10 @@ pub(crate) fn write_made<K: Sink, E: Sink>(
     made: Result<Vec<u8>, OutOfMemory>,
     out: &mut K,
     report: &mut E,
-) -> u8
-    ensures { (text : List ℕ) → IfOk made (λ bytes. bytes.items ≡ text) → Finishes (done text) (Rose (K.faults out.old) (K.faults out.new)) (Rose (E.faults report.old) (E.faults report.new)) (K.written out.old) (K.written out.new) (E.written report.old) (E.written report.new) result }
+) -> Status
+    ensures { (text : List ℕ) → IfOk made (λ bytes. bytes.items ≡ text) → Finishes (done text)
+        (device (K.written out.old) (K.faults out.old) (K.written out.new) (K.faults out.new))
+        (device (E.written report.old) (E.faults report.old) (E.written report.new) (E.faults report.new)) result }
 {
     match made {
         Ok(bytes) => write_out(out, bytes.as_slice()),
@@ -118,12 +133,14 @@ fn perform<K: Sink, E: Sink>(
     definition: Definition,
     out: &mut K,
     report: &mut E,
-) -> u8
+) -> Status
     requires readable { IsReadable definition.units }
     requires meets { MeetsRules definition.units }
     requires few { elements_in definition.units < 2 ^ 32 - 1 }
     requires bounds { IsInBounds command }
-    ensures { EndsBy (OfTask command.task command definition.units bytes) (Rose (K.faults out.old) (K.faults out.new)) (Rose (E.faults report.old) (E.faults report.new)) (K.written out.old) (K.written out.new) (E.written report.old) (E.written report.new) result }
+    ensures { EndsBy (OfTask command.task command definition.units bytes)
+        (device (K.written out.old) (K.faults out.old) (K.written out.new) (K.faults out.new))
+        (device (E.written report.old) (E.faults report.old) (E.written report.new) (E.faults report.new)) result }
 {
     match command.task {
         Task::Run => run(alloc, command, definition, out, report),
@@ -146,11 +163,13 @@ pub(crate) fn judge<K: Sink, E: Sink>(
     definition: Definition,
     out: &mut K,
     report: &mut E,
-) -> u8
+) -> Status
     requires readable { IsReadable definition.units }
     requires few { elements_in definition.units < 2 ^ 32 - 1 }
     requires bounds { IsInBounds command }
-    ensures { EndsBy (OfRules command definition.units bytes (first_break definition.units)) (Rose (K.faults out.old) (K.faults out.new)) (Rose (E.faults report.old) (E.faults report.new)) (K.written out.old) (K.written out.new) (E.written report.old) (E.written report.new) result }
+    ensures { EndsBy (OfRules command definition.units bytes (first_break definition.units))
+        (device (K.written out.old) (K.faults out.old) (K.written out.new) (K.faults out.new))
+        (device (E.written report.old) (E.faults report.old) (E.written report.new) (E.faults report.new)) result }
 {
     match check(alloc, definition) {
         CheckAnswer::Checked(checked) => {

@@ -1,6 +1,5 @@
 // What `gen` does with a program: it runs, and a line says what came of it.
 ghost use Rattle.std.specs.Prelude.{◌≡◌, ◌<◌, ◌-◌, ◌^◌, ℕ, List, length, IfOk};
-ghost use Rattle.st_base.specs.Streams.{Rose};
 ghost use Rattle.st_tree.specs.declared.units.Unit.{Unit};
 ghost use Rattle.st_tree.specs.Numbers.{elements_in};
 ghost use Rattle.st_tree.specs.Units.{IsReadable};
@@ -9,12 +8,14 @@ ghost use Rattle.st_words.specs.CommandLine.{IsInBounds};
 ghost use Rattle.st_machine.specs.Meaning.{ending_of};
 ghost use Rattle.st_machine.specs.Plans.{program_in};
 ghost use Rattle.st_run.specs.Outcomes.{line_of, program_for, summary, IsOfRun};
-ghost use Rattle.st_run.specs.Headline.{EndsBy};
+ghost use Rattle.st_run.specs.Devices.{device};
+ghost use Rattle.st_run.specs.Ends.{EndsBy};
 ghost use Rattle.st_run.specs.Told.{HasEnded};
 ghost use Rattle.st_runner.specs.Firsts.{IsFirst};
 
 use crate::finish::report_want_of_memory;
 use crate::running::report_ending;
+use crate::status::Status;
 use cell_heap::CellHeap;
 use st_base::{OutOfMemory, Sink, put_all};
 use st_gen::{Kept, gen_line};
@@ -40,7 +41,8 @@ fn summary(
     size: Size,
     transcript: usize,
 ) -> Result<Vec<u8>, OutOfMemory>
-    ensures { IfOk result (λ line. line.items ≡ line_of size.units size.bytes transcript machine.now.steps (ending_of ending)) }
+    ensures { IfOk result (λ line.
+        line.items ≡ line_of size.units size.bytes transcript machine.now.steps (ending_of ending)) }
 {
     match ending {
         Ending::Done => gen_line(
@@ -62,12 +64,16 @@ fn write_summary<K: Sink, E: Sink>(
     line: &[u8],
     out: &mut K,
     report: &mut E,
-) -> u8
-    ensures { (units : List Unit) (bytes transcript : ℕ) → HasEnded command units machine.now ending transcript → line.now ≡ line_of (length units) bytes transcript machine.now.steps (ending_of ending) → EndsBy (IsOfRun command units (summary units bytes)) (Rose (K.faults out.old) (K.faults out.new)) (Rose (E.faults report.old) (E.faults report.new)) (K.written out.old) (K.written out.new) (E.written report.old) (E.written report.new) result }
+) -> Status
+    ensures { (units : List Unit) (bytes transcript : ℕ) → HasEnded command units machine.now ending transcript
+        → line.now ≡ line_of (length units) bytes transcript machine.now.steps (ending_of ending)
+        → EndsBy (IsOfRun command units (summary units bytes))
+        (device (K.written out.old) (K.faults out.old) (K.written out.new) (K.faults out.new))
+        (device (E.written report.old) (E.faults report.old) (E.written report.new) (E.faults report.new)) result }
 {
     match put_all(out, line) {
         Ok(()) => report_ending(machine, command, ending, report),
-        Err(_) => 9,
+        Err(_) => Status::WriteFault,
     }
 }
 
@@ -81,8 +87,11 @@ fn summarize<K: Sink, E: Sink>(
     transcript: usize,
     out: &mut K,
     report: &mut E,
-) -> u8
-    ensures { (units : List Unit) → size.units ≡ length units → HasEnded command units machine.now ending transcript → EndsBy (IsOfRun command units (summary units size.bytes)) (Rose (K.faults out.old) (K.faults out.new)) (Rose (E.faults report.old) (E.faults report.new)) (K.written out.old) (K.written out.new) (E.written report.old) (E.written report.new) result }
+) -> Status
+    ensures { (units : List Unit) → size.units ≡ length units → HasEnded command units machine.now ending transcript
+        → EndsBy (IsOfRun command units (summary units size.bytes))
+        (device (K.written out.old) (K.faults out.old) (K.written out.new) (K.faults out.new))
+        (device (E.written report.old) (E.faults report.old) (E.written report.new) (E.faults report.new)) result }
 {
     match summary(alloc, machine, ending, size, transcript) {
         Ok(line) => write_summary(machine, command, ending, line.as_slice(), out, report),
@@ -98,9 +107,12 @@ fn run_kept<K: Sink, E: Sink>(
     size: Size,
     out: &mut K,
     report: &mut E,
-) -> u8
+) -> Status
     requires { IsFirst machine }
-    ensures { (units : List Unit) → size.units ≡ length units → program_in machine.plan ≡ program_for command units → EndsBy (IsOfRun command units (summary units size.bytes)) (Rose (K.faults out.old) (K.faults out.new)) (Rose (E.faults report.old) (E.faults report.new)) (K.written out.old) (K.written out.new) (E.written report.old) (E.written report.new) result }
+    ensures { (units : List Unit) → size.units ≡ length units → program_in machine.plan ≡ program_for command units
+        → EndsBy (IsOfRun command units (summary units size.bytes))
+        (device (K.written out.old) (K.faults out.old) (K.written out.new) (K.faults out.new))
+        (device (E.written report.old) (E.faults report.old) (E.written report.new) (E.faults report.new)) result }
 {
     let mut kept = Kept::new(alloc);
     match run_to_end(&mut machine, &mut kept) {
@@ -128,12 +140,14 @@ pub(crate) fn generate<K: Sink, E: Sink>(
     definition: Definition,
     out: &mut K,
     report: &mut E,
-) -> u8
+) -> Status
     requires readable { IsReadable definition.units }
     requires meets { MeetsRules definition.units }
     requires few { elements_in definition.units < 2 ^ 32 - 1 }
     requires bounds { IsInBounds command }
-    ensures { EndsBy (IsOfRun command definition.units (summary definition.units bytes)) (Rose (K.faults out.old) (K.faults out.new)) (Rose (E.faults report.old) (E.faults report.new)) (K.written out.old) (K.written out.new) (E.written report.old) (E.written report.new) result }
+    ensures { EndsBy (IsOfRun command definition.units (summary definition.units bytes))
+        (device (K.written out.old) (K.faults out.old) (K.written out.new) (K.faults out.new))
+        (device (E.written report.old) (E.faults report.old) (E.written report.new) (E.faults report.new)) result }
 {
     let size = Size {
         units: definition.units.len(),

@@ -8,9 +8,11 @@ mod generating;
 mod law;
 mod report;
 mod running;
+mod status;
 mod top;
 mod tracing;
 
 pub use finish::report_want_of_memory;
 pub use law::each_command_has_one_outcome;
+pub use status::Status;
 pub use top::stx;

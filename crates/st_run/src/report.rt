@@ -106,7 +106,8 @@ fn put_limit<E: Sink>(word: &[u8], number: u64, report: &mut E) -> Result<(), Fa
 
 /// Writes the line of the statistics.
 pub fn put_stats<E: Sink>(stats: Stats, report: &mut E) -> Result<(), Failed>
-    ensures text { Gains (E.written report.old) (E.written report.new) result (stats_line stats.steps stats.depth stats.cells stats.instructions) }
+    ensures text { Gains (E.written report.old) (E.written report.new) result
+        (stats_line stats.steps stats.depth stats.cells stats.instructions) }
     ensures cause { HasCause (E.faults report.old) (E.faults report.new) result }
 {
     put_number(b"stx: steps ", stats.steps, report)?;
@@ -121,7 +122,9 @@ fn put_exception<E: Sink>(
     exception: Value,
     report: &mut E,
 ) -> Result<(), Failed>
-    ensures text { Gains (E.written report.old) (E.written report.new) result (codes "stx: unhandled " ++ unhandled_text (program_in machine.now.plan) machine.now.memory.store exception ++ codes "\n") }
+    ensures text { Gains (E.written report.old) (E.written report.new) result
+        (codes "stx: unhandled "
+        ++ unhandled_text (program_in machine.now.plan) machine.now.memory.store exception ++ codes "\n") }
     ensures cause { HasCause (E.faults report.old) (E.faults report.new) result }
 {
     put(b"stx: unhandled ", report)?;
@@ -136,7 +139,8 @@ pub fn put_ending<E: Sink>(
     ending: Ending,
     report: &mut E,
 ) -> Result<(), Failed>
-    ensures text { Gains (E.written report.old) (E.written report.new) result (ending_line (program_in machine.now.plan) limits machine.now.memory.store (ending_of ending)) }
+    ensures text { Gains (E.written report.old) (E.written report.new) result
+        (ending_line (program_in machine.now.plan) limits machine.now.memory.store (ending_of ending)) }
     ensures cause { HasCause (E.faults report.old) (E.faults report.new) result }
 {
     match ending {

@@ -4,6 +4,7 @@
 mod devices;
 
 use devices::{StdSink, StdSource};
+use st_run::Status;
 use std::process::ExitCode;
 use std::rt::{Stderr, Stdout};
 use std::{env, io};
@@ -18,17 +19,17 @@ fn words(rt: &HostRuntime) -> io::Result<Vec<String>> {
 }
 
 // What is still gathered is written, the output before the report. Where one fails, nothing more is.
-fn finished(out: &mut StdSink<Stdout>, report: &mut StdSink<Stderr>, status: u8) -> u8 {
+fn finished(out: &mut StdSink<Stdout>, report: &mut StdSink<Stderr>, status: Status) -> Status {
     match out.finish() {
         Ok(()) => reported(report, status),
-        Err(_) => 9,
+        Err(_) => Status::WriteFault,
     }
 }
 
-fn reported(report: &mut StdSink<Stderr>, status: u8) -> u8 {
+fn reported(report: &mut StdSink<Stderr>, status: Status) -> Status {
     match report.finish() {
         Ok(()) => status,
-        Err(_) => 9,
+        Err(_) => Status::WriteFault,
     }
 }
 
@@ -45,5 +46,5 @@ fn main(rt: HostRuntime) -> ExitCode {
             reported(&mut report, status)
         }
     };
-    ExitCode::from(status)
+    ExitCode::from(status.code())
 }

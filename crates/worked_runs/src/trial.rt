@@ -29,7 +29,7 @@ impl Outcome {
         let status = st_run::stx(alloc, &run.words, &mut source, &mut out, &mut report);
         let written = source.faults().saturating_add(out.faults());
         Ok(Outcome {
-            status,
+            status: status.code(),
             out: Vec::from_slice(alloc, out.written())?,
             report: Vec::from_slice(alloc, report.written())?,
             faults: written.saturating_add(report.faults()),

@@ -1,5 +1,5 @@
 -- A machine that was opened is at the beginning of the program's run.
-use Rattle.std.proofs.Common.{ap, subst, sym}
+use Rattle.std.proofs.Common.{refl, ap, subst, sym}
 use Rattle.st_machine.specs.Plans.{program_in}
 use Rattle.st_machine.specs.Seen.{Seen}
 use Rattle.st_runner.specs.Firsts.{IsFirst}
@@ -13,7 +13,7 @@ pub returns-in-Ok : goal.returns-in-Ok
 returns-in-Ok g c = c.run_machine.ensures c.args.definition.units (ap (λ (m : Seen). program_in m.plan) c.in-Ok.ensures.opened)
 
 pub returns-in-Err : goal.returns-in-Err
-returns-in-Err g c = wanted_by (IsOfRun c.args.command c.args.definition.units transcript) _ _ _ _ _ _ (some_of_run c.args.command c.args.definition.units transcript) (λ o. c.report_want_of_memory.ensures.finishes o _)
+returns-in-Err g c = wanted_by (IsOfRun c.args.command c.args.definition.units transcript) _ _ _ (some_of_run c.args.command c.args.definition.units transcript) (λ o. c.report_want_of_memory.ensures.finishes o _ refl)
 
 pub run_machine-requires : goal.run_machine-requires
 run_machine-requires g c = subst (λ (m : Seen). IsFirst m) (sym c.in-Ok.ensures.opened) (opens-first c.args.definition.units c.args.command.limits c.requires.readable c.requires.meets c.requires.few c.requires.bounds.steps c.in-Ok.ensures.few c.in-Ok.ensures.room)

@@ -4,7 +4,7 @@ use Rattle.st_run.proofs.RunLemmas.{ran, stopped}
 use Rattle.st_run.proofs.running.run_machine.Goals as goal
 
 pub returns-in-Ok : goal.returns-in-Ok
-returns-in-Ok g c = λ units same. ran c.args.command units _ same _ _ _ _ c.in-Ok.ending _ _ _ _ c.in-Ok.ensures.ends c.report_ending.ensures.told c.report_ending.ensures.part
+returns-in-Ok g c = λ units same. ran c.args.command units _ same _ _ _ c.in-Ok.ending _ c.in-Ok.ensures.ends c.report_ending.ensures.told c.report_ending.ensures.part
 
 pub returns : goal.returns
-returns g c = λ units same. stopped c.args.command units _ same _ _ _ _ _ _ c.in-Err.ensures.stops c.in-Err.ensures.cause refl
+returns g c = λ units same. stopped c.args.command units _ same _ _ _ refl c.in-Err.ensures.stops c.in-Err.ensures.cause refl
