@@ -22,3 +22,4 @@ pub mod TreesThere
 pub mod MadeThere
 pub mod ProgramThere
 pub mod NumbersKnown
+pub mod CheckedFiles

@@ -27,7 +27,7 @@ use Rattle.law_values.proofs.RowsThere.{Gets, if_has, slots_made, string_made, n
 module _ (C : ℕ) (low : 29 < C) where
   module _ (k : ℕ) where
     abbrev AnswerHas : NumberAnswer → Type 0
-    AnswerHas (NumberAnswer.Value v) = (Has C) k v
+    AnswerHas (NumberAnswer.Value v) = Has C k v
     AnswerHas a = Unit {0}
 
     -- a value that is answered is there
@@ -149,35 +149,35 @@ module _ (C : ℕ) (low : 29 < C) where
     answer_known Arithmetic.Truncated (Number.Fraction n d) a = record { known = tt }
     answer_known Arithmetic.Reciprocal x a = divide_known (Number.Integer (pos 1)) x
 
-  module _ (p : Program) (s : Store) (h : (ObjectsHave C) (length s.objects) s.objects) where
+  module _ (p : Program) (s : Store) (h : ObjectsHave C (length s.objects) s.objects) where
     abbrev k : ℕ
     k = length s.objects
 
-    trouble_has : (dividend : Value) (t : Trouble) → (Has C) k dividend → (Gets C low) p s h (troubled dividend t)
+    trouble_has : (dividend : Value) (t : Trouble) → Has C k dividend → Gets C low p s h (troubled dividend t)
     trouble_has dividend Trouble.ZeroDivide g = record { gets = g }
     trouble_has dividend t g = record { gets = tt }
 
-    numeric_has : (dividend r v : Value) (a : NumberAnswer) → (Has C) k dividend → (Has C) k r → (Has C) k v → Known k a → (Gets C low) p s h (numeric_action s dividend r v a)
+    numeric_has : (dividend r v : Value) (a : NumberAnswer) → Has C k dividend → Has C k r → Has C k v → Known k a → Gets C low p s h (numeric_action s dividend r v a)
     numeric_has dividend r v (NumberAnswer.Value w) g i j a = record { gets = a.known }
-    numeric_has dividend r v (NumberAnswer.Fraction n d) g i j a = (slots_made C low) p s h fraction_class (Integer n ∷ Integer d ∷ []) (tt, (tt, tt))
+    numeric_has dividend r v (NumberAnswer.Fraction n d) g i j a = slots_made C low p s h fraction_class (Integer n ∷ Integer d ∷ []) (tt, (tt, tt))
     numeric_has dividend r v NumberAnswer.Receiver g i j a = record { gets = i }
     numeric_has dividend r v NumberAnswer.Argument g i j a = record { gets = j }
     numeric_has dividend r v (NumberAnswer.Trouble t) g i j a = trouble_has dividend t g
     numeric_has dividend r v NumberAnswer.IntegerLimit g i j a = record { gets = tt }
 
-    dividend_has : (m : Arithmetic) (r : Value) → (Has C) k r → (Has C) k (dividend_of m r)
+    dividend_has : (m : Arithmetic) (r : Value) → Has C k r → Has C k (dividend_of m r)
     dividend_has Arithmetic.Reciprocal r g = tt
     dividend_has m r g = g
 
-    of_number_has : (m : Arithmetic) (o : Option Number) (r : Value) (args : List Value) → (Has C) k r → (AllHave C) k args → (Gets C low) p s h (of_number s m o r args)
+    of_number_has : (m : Arithmetic) (o : Option Number) (r : Value) (args : List Value) → Has C k r → AllHave C k args → Gets C low p s h (of_number s m o r args)
     of_number_has m None r args g i = record { gets = tt }
-    of_number_has m (Some x) r args g i = numeric_has (dividend_of m r) r (first args) (answer_of m x (argument_of s args)) (dividend_has m r g) g ((first_has C low) k args i) (answer_known k m x (argument_of s args))
+    of_number_has m (Some x) r args g i = numeric_has (dividend_of m r) r (first args) (answer_of m x (argument_of s args)) (dividend_has m r g) g (first_has C low k args i) (answer_known k m x (argument_of s args))
 
-    arithmetic_has : (m : Arithmetic) (r : Value) (args : List Value) → (Has C) k r → (AllHave C) k args → (Gets C low) p s h (arithmetic_action s m r args)
+    arithmetic_has : (m : Arithmetic) (r : Value) (args : List Value) → Has C k r → AllHave C k args → Gets C low p s h (arithmetic_action s m r args)
     unfolding arithmetic_action
     arithmetic_has m r args g i = of_number_has m (as_number s r) r args g i
 
-    integer_has : (v : Value) (act : ℤ → Action) → ((n : ℤ) → (Gets C low) p s h (act n)) → (Gets C low) p s h (with_integer v act)
+    integer_has : (v : Value) (act : ℤ → Action) → ((n : ℤ) → Gets C low p s h (act n)) → Gets C low p s h (with_integer v act)
     integer_has (Integer n) act g = g n
     integer_has (Object n) act g = record { gets = tt }
     integer_has Nil act g = record { gets = tt }
@@ -189,24 +189,24 @@ module _ (C : ℕ) (low : 29 < C) where
     integer_has (Meta c) act g = record { gets = tt }
     integer_has Transcript act g = record { gets = tt }
 
-    radix_has : (r radix : ℤ) → (Gets C low) p s h (in_radix s r radix)
-    radix_has r (pos radix) = (if_has C low) p s h (nat_le 2 radix && nat_le radix 36) (makes_string (radix_text radix r) s) (Fails BadRadix) ((string_made C low) p s h (radix_text radix r)) record { gets = tt }
+    radix_has : (r radix : ℤ) → Gets C low p s h (in_radix s r radix)
+    radix_has r (pos radix) = if_has C low p s h (nat_le 2 radix && nat_le radix 36) (makes_string (radix_text radix r) s) (Fails BadRadix) (string_made C low p s h (radix_text radix r)) record { gets = tt }
     radix_has r (negsuc radix) = record { gets = tt }
 
-    interval_has : (start stop by : ℤ) → (Gets C low) p s h (interval s start stop by)
-    interval_has start stop by = (if_has C low) p s h (nat_lt (interval_size start stop by) (2 ^ 127)) (makes_slots interval_class (Integer start ∷ Integer stop ∷ Integer by ∷ []) s) PassesIntegers ((slots_made C low) p s h interval_class (Integer start ∷ Integer stop ∷ Integer by ∷ []) (tt, (tt, (tt, tt)))) record { gets = tt }
+    interval_has : (start stop by : ℤ) → Gets C low p s h (interval s start stop by)
+    interval_has start stop by = if_has C low p s h (nat_lt (interval_size start stop by) (2 ^ 127)) (makes_slots interval_class (Integer start ∷ Integer stop ∷ Integer by ∷ []) s) PassesIntegers (slots_made C low p s h interval_class (Integer start ∷ Integer stop ∷ Integer by ∷ []) (tt, (tt, (tt, tt)))) record { gets = tt }
 
-    by_has : (start stop by : ℤ) → (Gets C low) p s h (interval_by s start stop by)
-    by_has start stop by = (if_has C low) p s h (nat_eq (nat_abs by) 0) (Fails StepIsZero) (interval s start stop by) ((no_trouble C low) p s h StepIsZero) (interval_has start stop by)
+    by_has : (start stop by : ℤ) → Gets C low p s h (interval_by s start stop by)
+    by_has start stop by = if_has C low p s h (nat_eq (nat_abs by) 0) (Fails StepIsZero) (interval s start stop by) (no_trouble C low p s h StepIsZero) (interval_has start stop by)
 
-    number_has : (m : Asked) (r : Value) (args : List Value) → (Has C) k r → (AllHave C) k args → (Gets C low) p s h (number_at p s m r args)
+    number_has : (m : Asked) (r : Value) (args : List Value) → Has C k r → AllHave C k args → Gets C low p s h (number_at p s m r args)
     number_has (Asked.Computes m) r args g i = arithmetic_has m r args g i
-    number_has Asked.AsString r args g i = (string_made C low) p s h (print_text p s r)
+    number_has Asked.AsString r args g i = string_made C low p s h (print_text p s r)
     number_has Asked.PrintRadix r args g i = integer_has (first args) (λ radix. in_radix s (integer_of r) radix) (λ radix. radix_has (integer_of r) radix)
     number_has Asked.To r args g i = integer_has (first args) (λ stop. interval s (integer_of r) stop (pos 1)) (λ stop. interval_has (integer_of r) stop (pos 1))
     number_has Asked.ToBy r args g i = integer_has (first args) (λ stop. with_integer (second args) (λ by. interval_by s (integer_of r) stop by)) (λ stop. integer_has (second args) (λ by. interval_by s (integer_of r) stop by) (λ by. by_has (integer_of r) stop by))
     number_has Asked.FromNumerator r args g i = integer_has (first args) (λ n. with_integer (second args) (λ d. arithmetic_action s Arithmetic.Divide (Integer n) (Integer d ∷ []))) (λ n. integer_has (second args) (λ d. arithmetic_action s Arithmetic.Divide (Integer n) (Integer d ∷ [])) (λ d. arithmetic_has Arithmetic.Divide (Integer n) (Integer d ∷ []) tt (tt, tt)))
 
-    pub numbers_have : (m : NumberMessage) (r : Value) (args : List Value) → (Has C) k r → (AllHave C) k args → (Gets C low) p s h (number_action p s m r args)
+    pub numbers_have : (m : NumberMessage) (r : Value) (args : List Value) → Has C k r → AllHave C k args → Gets C low p s h (number_action p s m r args)
     unfolding number_action
     numbers_have m r args g i = number_has (asked m) r args g i

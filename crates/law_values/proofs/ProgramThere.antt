@@ -53,7 +53,7 @@ module _ (C : ℕ) (low : 29 < C) where
   module _ (K : ℕ) (V : Place → Type 0) (X : Names) (scoped : (up n : ℕ) → V (Scoped up n)) (slot : (n : ℕ) → V (Slot n)) (class_slot : (n : ℕ) → V (ClassSlot n)) (inside : length X.classes ≤ C) (shared : (n : ℕ) → n < length X.shared → V (Shared n)) where
     abbrev OrNone : Option Meant → Type 0
     OrNone None = Unit {0}
-    OrNone (Some m) = (MeantHas C low) K V m
+    OrNone (Some m) = MeantHas C low K V m
 
     or_has : (a b : Option Meant) → OrNone a → OrNone b → OrNone (or_meant a b)
     or_has None b h i = i
@@ -105,54 +105,54 @@ module _ (C : ℕ) (low : 29 < C) where
     own_has c OfClass t = slot_meant ClassSlot (text_in 0 c.class_instance_names t) class_slot
     own_has c OfMeta t = slot_meant ClassSlot (text_in 0 c.class_instance_names t) class_slot
 
-    transcript_has : (o : Option Meant) → OrNone o → (MeantHas C low) K V (or_transcript o)
+    transcript_has : (o : Option Meant) → OrNone o → MeantHas C low K V (or_transcript o)
     transcript_has None h = tt
     transcript_has (Some m) h = h
 
-    outside_has : (class : ℕ) (side : Side) (t : Text) → (MeantHas C low) K V (meant_outside X class side t)
+    outside_has : (class : ℕ) (side : Side) (t : Text) → MeantHas C low K V (meant_outside X class side t)
     unfolding meant_outside
     outside_has class side t =
         transcript_has _ (or_has (own_names (class_names_at X.classes class) side t) _ (own_has (class_names_at X.classes class) side t)
         (or_has (in_classes X (suc class) class t) _ (classes_have (suc class) class t)
         (or_has (meant_class (class_in 0 X.classes t)) _ (class_meant (class_in 0 X.classes t) (class_below X.classes t inside)) (shared_has (GlobalName t)))))
 
-    from_has : (class : ℕ) (side : Side) (up : ℕ) (scopes : List (List Text)) (t : Text) → (MeantHas C low) K V (meant_from X class side up scopes t)
+    from_has : (class : ℕ) (side : Side) (up : ℕ) (scopes : List (List Text)) (t : Text) → MeantHas C low K V (meant_from X class side up scopes t)
     from_has class side up [] t = outside_has class side t
     from_has class side up (scope ∷ scopes) t = go (text_in 0 scope t) (from_has class side (suc up) scopes t)
       where
-        go : (o : Option ℕ) → (MeantHas C low) K V (meant_from X class side (suc up) scopes t) → (MeantHas C low) K V (elim o [ Some n ↦ At (Scoped up n) | None ↦ meant_from X class side (suc up) scopes t ])
+        go : (o : Option ℕ) → MeantHas C low K V (meant_from X class side (suc up) scopes t) → MeantHas C low K V (elim o [ Some n ↦ At (Scoped up n) | None ↦ meant_from X class side (suc up) scopes t ])
         go None h = h
         go (Some n) h = scoped up n
 
-    pub meant_has : (class : ℕ) (side : Side) (scopes : List (List Text)) (t : Text) → (MeantHas C low) K V (meant X class side scopes t)
+    pub meant_has : (class : ℕ) (side : Side) (scopes : List (List Text)) (t : Text) → MeantHas C low K V (meant X class side scopes t)
     unfolding meant
     meant_has class side scopes t = from_has class side 0 scopes t
 
   -- ---- units
 
-  module _ (K : ℕ) (V : Place → Type 0) (X : Names) (inside : length X.classes ≤ C) (known : (class : ℕ) (side : Side) (scopes : List (List Text)) (t : Text) → (MeantHas C low) K V (meant X class side scopes t)) (assigns : (class : ℕ) (side : Side) (scopes : List (List Text)) (t : Text) → V (place_of (meant X class side scopes t))) where
+  module _ (K : ℕ) (V : Place → Type 0) (X : Names) (inside : length X.classes ≤ C) (known : (class : ℕ) (side : Side) (scopes : List (List Text)) (t : Text) → MeantHas C low K V (meant X class side scopes t)) (assigns : (class : ℕ) (side : Side) (scopes : List (List Text)) (t : Text) → V (place_of (meant X class side scopes t))) where
     pub record Held (d : Defined) : Type 0 where
-      pub bodies : (BodiesHave C low) K V d.bodies
-      pub objects : (ObjectsHave C) K d.objects
-      pub selves : (SelvesHave C) K d.initializers
+      pub bodies : BodiesHave C low K V d.bodies
+      pub objects : ObjectsHave C K d.objects
+      pub selves : SelvesHave C K d.initializers
 
-    selves_append : (xs ys : List Initializer) → (SelvesHave C) K xs → (SelvesHave C) K ys → (SelvesHave C) K (xs ++ ys)
+    selves_append : (xs ys : List Initializer) → SelvesHave C K xs → SelvesHave C K ys → SelvesHave C K (xs ++ ys)
     selves_append [] ys g h = h
     selves_append (x ∷ xs) ys g h = (g.0, selves_append xs ys g.1 h)
 
-    side_has : (side : Side) (class : ℕ) → class < C → (Has C) K (elim side [ OfInstance ↦ Class class | OfClass ↦ Meta class | _ ↦ Nil ])
+    side_has : (side : Side) (class : ℕ) → class < C → Has C K (elim side [ OfInstance ↦ Class class | OfClass ↦ Meta class | _ ↦ Nil ])
     side_has OfInstance class l = l
     side_has OfClass class l = l
     side_has OfMeta class l = tt
 
-    body_held : (class : ℕ) → class < C → (side : Side) (kind : Kind) (parameters : List Text) (b : NamedBody) (d : Defined) (methods : List MethodRow) (initializers : List Initializer) → length (with_body X class side kind parameters b d methods initializers).objects ≤ K → Held d → (SelvesHave C) K initializers → Held (with_body X class side kind parameters b d methods initializers)
+    body_held : (class : ℕ) → class < C → (side : Side) (kind : Kind) (parameters : List Text) (b : NamedBody) (d : Defined) (methods : List MethodRow) (initializers : List Initializer) → length (with_body X class side kind parameters b d methods initializers).objects ≤ K → Held d → SelvesHave C K initializers → Held (with_body X class side kind parameters b d methods initializers)
     body_held class l side kind parameters b d methods initializers f h s =
         let made = body_in X class side kind parameters b d in
         let e = length-append d.objects made.objects in
-        let g = (statements_have C low) K V X known assigns class l side (length d.bodies) ((parameters ++ b.temporaries) ∷ []) (record { bodies = suc (length d.bodies); objects = length d.objects }) b.statements (omega (arith, f, e)) in
+        let g = statements_have C low K V X known assigns class l side (length d.bodies) ((parameters ++ b.temporaries) ∷ []) (record { bodies = suc (length d.bodies); objects = length d.objects }) b.statements (omega (arith, f, e)) in
         record {
-          bodies = (bodies_append C low) K V d.bodies _ h.bodies ((g.item, side_has side class l), g.bodies);
-          objects = (objects_append C low) K d.objects made.objects h.objects g.objects;
+          bodies = bodies_append C low K V d.bodies _ h.bodies ((g.item, side_has side class l), g.bodies);
+          objects = objects_append C low K d.objects made.objects h.objects g.objects;
           selves = selves_append d.initializers initializers h.selves s;
         }
 
@@ -199,11 +199,11 @@ module _ (C : ℕ) (low : 29 < C) where
 
   -- ---- the program
 
-  texts_have : (K : ℕ) (texts : List Text) → (ObjectsHave C) K (map literal_string texts)
+  texts_have : (K : ℕ) (texts : List Text) → ObjectsHave C K (map literal_string texts)
   texts_have K [] = tt
   texts_have K (t ∷ texts) = (tt, texts_have K texts)
 
-  troubles_have : (K : ℕ) → (ObjectsHave C) K trouble_literals
+  troubles_have : (K : ℕ) → ObjectsHave C K trouble_literals
   unfolding trouble_literals
   troubles_have K = texts_have K trouble_texts
 
@@ -243,7 +243,7 @@ module _ (C : ℕ) (low : 29 < C) where
     unfolding program_of
     as_many = sym (length-map _ _)
 
-    pub literals_known : length (program_of names units limits).classes ≤ C → (KnowsNumbers C) (program_of names units limits)
+    pub literals_known : length (program_of names units limits).classes ≤ C → KnowsNumbers C (program_of names units limits)
     unfolding program_of
     literals_known l =
         let inside : length X.classes ≤ C = let e = as_many in omega (arith, e, l) in
@@ -251,10 +251,10 @@ module _ (C : ℕ) (low : 29 < C) where
         let h = units_held K (λ place. Unit {0}) X inside known (λ class side scopes t. tt) units nothing_defined (omega (arith, size)) (record { bodies = tt; objects = tt; selves = tt }) in
         let p = program_of names units limits in
         record {
-          constants = (codes_have C low) K (λ place. Unit {0}) p _ (λ number i g. (names_literal C low) K (λ place. Unit {0}) p number i g) h.bodies;
-          literals = (objects_append C low) K D.objects trouble_literals h.objects (troubles_have K);
+          constants = codes_have C low K (λ place. Unit {0}) p _ (λ number i g. names_literal C low K (λ place. Unit {0}) p number i g) h.bodies;
+          literals = objects_append C low K D.objects trouble_literals h.objects (troubles_have K);
           troubles = λ t. let l = trouble_there t in omega (arith, l, size);
           selves = h.selves;
           above = above_there l;
-          classes = (class_has C low) K (λ place. Unit {0}) p h.bodies;
+          classes = class_has C low K (λ place. Unit {0}) p h.bodies;
         }

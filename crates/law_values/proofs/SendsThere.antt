@@ -25,13 +25,13 @@ module _ (C : ℕ) (low : 29 < C) where
   -- a closure, if there is one
   abbrev pub ClosureOr : ℕ → Option Closure → Type 0
   ClosureOr k None = Unit {0}
-  ClosureOr k (Some c) = (ClosureHas C) k c
+  ClosureOr k (Some c) = ClosureHas C k c
 
-  module _ (p : Program) (s : Store) (h : (ObjectsHave C) (length s.objects) s.objects) (cs : (ClosuresHave C) (length s.objects) s.closures) where
+  module _ (p : Program) (s : Store) (h : ObjectsHave C (length s.objects) s.objects) (cs : ClosuresHave C (length s.objects) s.closures) where
     abbrev k : ℕ
     k = length s.objects
 
-    closure_at_has : (ds : List Closure) (n : ℕ) → (ClosuresHave C) k ds → ClosureOr k (slice_get ds n)
+    closure_at_has : (ds : List Closure) (n : ℕ) → ClosuresHave C k ds → ClosureOr k (slice_get ds n)
     closure_at_has [] n g = tt
     closure_at_has (c ∷ ds) zero g = g.0
     closure_at_has (c ∷ ds) (suc n) g = closure_at_has ds n g.1
@@ -69,52 +69,52 @@ module _ (C : ℕ) (low : 29 < C) where
     unfolding closure_for
     closure_for_has v count = taking_has (closure_of s v) count (closure_of_has v)
 
-    value_with_has : (c : Closure) (args : List Value) → (ClosureHas C) k c → (AllHave C) k args → (Gets C low) p s h (value_with p c args)
-    value_with_has c args g i = (if_has C low) p s h (nat_eq (body_at p c.code).parameters (length args)) (Activates c args) (Fails WrongNumberOfArguments) record { gets = (g, i) } record { gets = tt }
+    value_with_has : (c : Closure) (args : List Value) → ClosureHas C k c → AllHave C k args → Gets C low p s h (value_with p c args)
+    value_with_has c args g i = if_has C low p s h (nat_eq (body_at p c.code).parameters (length args)) (Activates c args) (Fails WrongNumberOfArguments) record { gets = (g, i) } record { gets = tt }
 
-    block_has : (m : BlockMessage) (r : Value) (c : Closure) (args : List Value) → (Has C) k r → (ClosureHas C) k c → (AllHave C) k args → (Gets C low) p s h (block_at p s m r c args)
+    block_has : (m : BlockMessage) (r : Value) (c : Closure) (args : List Value) → Has C k r → ClosureHas C k c → AllHave C k args → Gets C low p s h (block_at p s m r c args)
     block_has BlockMessage.Value r c args g d i = value_with_has c args d i
-    block_has BlockMessage.ValueWithArguments r c args g d i = (if_has C low) p s h (is_a s array_class (first args)) (value_with p c (slots_of s (first args))) (Fails CollectionExpected) (value_with_has c (slots_of s (first args)) d ((slots_have C low) p s h (first args))) record { gets = tt }
+    block_has BlockMessage.ValueWithArguments r c args g d i = if_has C low p s h (is_a s array_class (first args)) (value_with p c (slots_of s (first args))) (Fails CollectionExpected) (value_with_has c (slots_of s (first args)) d (slots_have C low p s h (first args))) record { gets = tt }
     block_has BlockMessage.NumArgs r c args g d i = record { gets = tt }
-    block_has BlockMessage.OnDo r c args g d i = record { gets = (g, (first_has C low) k args i, (second_has C low) k args i) }
-    block_has BlockMessage.Ensure r c args g d i = record { gets = (g, (first_has C low) k args i) }
-    block_has BlockMessage.IfCurtailed r c args g d i = record { gets = (g, (first_has C low) k args i) }
+    block_has BlockMessage.OnDo r c args g d i = record { gets = (g, first_has C low k args i, second_has C low k args i) }
+    block_has BlockMessage.Ensure r c args g d i = record { gets = (g, first_has C low k args i) }
+    block_has BlockMessage.IfCurtailed r c args g d i = record { gets = (g, first_has C low k args i) }
 
-    blocks_by : (m : BlockMessage) (r : Value) (o : Option Closure) (args : List Value) → (Has C) k r → ClosureOr k o → (AllHave C) k args → (Gets C low) p s h (elim o [ Some c ↦ block_at p s m r c args | None ↦ Gives Nil ])
+    blocks_by : (m : BlockMessage) (r : Value) (o : Option Closure) (args : List Value) → Has C k r → ClosureOr k o → AllHave C k args → Gets C low p s h (elim o [ Some c ↦ block_at p s m r c args | None ↦ Gives Nil ])
     blocks_by m r None args g d i = record { gets = tt }
     blocks_by m r (Some c) args g d i = block_has m r c args g d i
 
     module _ (cl : (n : ℕ) → (object_at n s).class < C) (up : (class above : ℕ) → (class_at p class).superclass ≡ Some above → above < C) where
-      rows_have : (row : Row) (r : Value) (args : List Value) → (Has C) k r → (AllHave C) k args → (Gets C low) p s h (row_action p s row r args)
+      rows_have : (row : Row) (r : Value) (args : List Value) → Has C k r → AllHave C k args → Gets C low p s h (row_action p s row r args)
       unfolding row_action block_action
-      rows_have (Objects m) r args g i = (objects_have C low) p s h cl m r args g i
-      rows_have (Classes m) r args g i = (classes_have C low) p s h up m r args
-      rows_have (Booleans m) r args g i = (booleans_have C low) p s h m r args g i
-      rows_have (Numbers m) r args g i = (numbers_have C low) p s h m r args g i
-      rows_have (Characters m) r args g i = (characters_have C low) p s h m r args
-      rows_have (Transcripts m) r args g i = (transcripts_have C low) p s h m r args g
-      rows_have (Strings m) r args g i = (strings_have C low) p s h m r args
-      rows_have (Sequences m) r args g i = (sequences_have C low) p s h m r args g i
-      rows_have (Collections m) r args g i = (collections_have C low) p s h m r args g i
+      rows_have (Objects m) r args g i = objects_have C low p s h cl m r args g i
+      rows_have (Classes m) r args g i = classes_have C low p s h up m r args
+      rows_have (Booleans m) r args g i = booleans_have C low p s h m r args g i
+      rows_have (Numbers m) r args g i = numbers_have C low p s h m r args g i
+      rows_have (Characters m) r args g i = characters_have C low p s h m r args
+      rows_have (Transcripts m) r args g i = transcripts_have C low p s h m r args g
+      rows_have (Strings m) r args g i = strings_have C low p s h m r args
+      rows_have (Sequences m) r args g i = sequences_have C low p s h m r args g i
+      rows_have (Collections m) r args g i = collections_have C low p s h m r args g i
       rows_have (Blocks m) r args g i = blocks_by m r (closure_of s r) args g (closure_of_has r) i
-      rows_have (Exceptions m) r args g i = (exceptions_have C low) p s h m r args g i
-      rows_have (Loops m) r args g i = (loops_have C low) p s h m r args g i
-      rows_have (Slots slot) r args g i = record { gets = (slot_has C low) p s h r slot }
+      rows_have (Exceptions m) r args g i = exceptions_have C low p s h m r args g i
+      rows_have (Loops m) r args g i = loops_have C low p s h m r args g i
+      rows_have (Slots slot) r args g i = record { gets = slot_has C low p s h r slot }
 
       abbrev found_by : Option Found → ℕ → Value → List Value → Action
       found_by (Some (UserMethod code)) selector r args = Enters code r args
       found_by (Some (BuiltIn row)) selector r args = row_action p s row r args
       found_by None selector r args = Misses selector r args
 
-      found_has : (o : Option Found) (selector : ℕ) (r : Value) (args : List Value) → (Has C) k r → (AllHave C) k args → (ActionHas C) s (found_by o selector r args)
+      found_has : (o : Option Found) (selector : ℕ) (r : Value) (args : List Value) → Has C k r → AllHave C k args → ActionHas C s (found_by o selector r args)
       found_has (Some (UserMethod code)) selector r args g i = (g, i)
       found_has (Some (BuiltIn row)) selector r args g i = (rows_have row r args g i).gets
       found_has None selector r args g i = (g, i)
 
-      pub send_has : (selector : ℕ) (r : Value) (args : List Value) → (Has C) k r → (AllHave C) k args → (ActionHas C) s (send_action p s selector r args)
+      pub send_has : (selector : ℕ) (r : Value) (args : List Value) → Has C k r → AllHave C k args → ActionHas C s (send_action p s selector r args)
       unfolding send_action
       send_has selector r args g i = found_has (lookup p (level_of s r) selector) selector r args g i
 
-      pub super_has : (class : Value) (selector : ℕ) (r : Value) (args : List Value) → (Has C) k r → (AllHave C) k args → (ActionHas C) s (super_action p s class selector r args)
+      pub super_has : (class : Value) (selector : ℕ) (r : Value) (args : List Value) → Has C k r → AllHave C k args → ActionHas C s (super_action p s class selector r args)
       unfolding super_action
       super_has class selector r args g i = found_has (super_lookup p class selector) selector r args g i

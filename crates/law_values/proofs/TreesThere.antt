@@ -16,7 +16,7 @@ module _ (C : ℕ) (low : 29 < C) where
   module _ (K : ℕ) (V : Place → Type 0) where
     abbrev mutual
       pub TreeHas : Tree → Type 0
-      TreeHas (Constant v) = (Has C) K v
+      TreeHas (Constant v) = Has C K v
       TreeHas Self = Unit {0}
       TreeHas (VariableTree place) = V place
       TreeHas (Assign place t) = V place × TreeHas t
@@ -40,7 +40,7 @@ module _ (C : ℕ) (low : 29 < C) where
     StatementsHave (Return t ∷ row) = TreeHas t × StatementsHave row
 
     abbrev pub InstrHas : Instr → Type 0
-    InstrHas (PushConstant v) = (Has C) K v
+    InstrHas (PushConstant v) = Has C K v
     InstrHas (PushVariable place) = V place
     InstrHas (Store place) = V place
     InstrHas i = Unit {0}
@@ -52,7 +52,7 @@ module _ (C : ℕ) (low : 29 < C) where
     -- the statements of bodies, and the classes that they are written in
     abbrev pub BodiesHave : List Body → Type 0
     BodiesHave [] = Unit {0}
-    BodiesHave (b ∷ bodies) = (StatementsHave b.statements × (Has C) K b.class) × BodiesHave bodies
+    BodiesHave (b ∷ bodies) = (StatementsHave b.statements × Has C K b.class) × BodiesHave bodies
 
     dup_has : (messages : Messages) (rest : List Instr) → InstrsHave rest → InstrsHave (dup_for messages rest)
     dup_has no_messages rest h = h
@@ -123,18 +123,18 @@ module _ (C : ℕ) (low : 29 < C) where
       unfolding compile_of
       codes_have h = codes_from 0 p.bodies h
 
-    pub class_has : (p : Program) → BodiesHave p.bodies → (number : ℕ) → (Has C) K (body_at p number).class
+    pub class_has : (p : Program) → BodiesHave p.bodies → (number : ℕ) → Has C K (body_at p number).class
     unfolding body_at
     class_has p h number = go p.bodies number h
       where
-        go : (bodies : List Body) (n : ℕ) → BodiesHave bodies → (Has C) K (get_or bodies n (record { kind = InBlock; class = Nil; parameters = 0; captured = []; outer = None; statements = [] })).class
+        go : (bodies : List Body) (n : ℕ) → BodiesHave bodies → Has C K (get_or bodies n (record { kind = InBlock; class = Nil; parameters = 0; captured = []; outer = None; statements = [] })).class
         go [] n h = tt
         go (b ∷ bodies) zero h = h.0.1
         go (b ∷ bodies) (suc n) h = go bodies n h.1
 
   -- ---- what a compiled instruction names
 
-  constant_has : (K : ℕ) (v : Value) → (Has C) K v → (Has C) K (constant_value (constant_of v))
+  constant_has : (K : ℕ) (v : Value) → Has C K v → Has C K (constant_value (constant_of v))
   constant_has K (Object n) h = h
   constant_has K Nil h = tt
   constant_has K True h = tt
@@ -146,7 +146,7 @@ module _ (C : ℕ) (low : 29 < C) where
   constant_has K (Meta c) h = h
   constant_has K Transcript h = tt
 
-  pub names_literal : (K : ℕ) (V : Place → Type 0) (p : Program) (number : ℕ) (i : Instr) → InstrHas K V i → (NamesLiteral C) K (instruction_of p number i)
+  pub names_literal : (K : ℕ) (V : Place → Type 0) (p : Program) (number : ℕ) (i : Instr) → InstrHas K V i → NamesLiteral C K (instruction_of p number i)
   names_literal K V p number (PushConstant v) h = constant_has K v h
   names_literal K V p number PushSelf h = tt
   names_literal K V p number Pop h = tt

@@ -3,3 +3,4 @@ pub mod KnownBuilt
 pub mod BuiltRun
 pub mod NamedSymbols
 pub mod KnownNumbers
+pub mod CheckedFiles
