@@ -1,0 +1,4 @@
+pub mod FlatTurns
+pub mod Calls
+pub mod Underway
+pub mod Going
