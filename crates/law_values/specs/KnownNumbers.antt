@@ -1,4 +1,4 @@
--- What is claimed of the numbers of classes and objects: each that a run of the flat machine has in hand names one. As the definitions for objects alone, with so many classes.
+-- What is claimed of the numbers of objects and classes: each that a run of the flat machine has in hand names one. The definitions are those of st_rules for objects alone, with classes beside.
 use Rattle.std.specs.Prelude.{◌≡◌, ◌⊎◌, ℕ, ◌+◌, ◌<◌, ◌≤◌, List, [], ◌∷◌, ◌++◌, length, slice_get, Option, Some, None}
 use Rattle.object_heap.specs.declared.value.Value.{Value}
 use Rattle.object_heap.specs.declared.value.Value.TheVariants.{Class, Meta, Object}

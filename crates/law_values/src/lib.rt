@@ -1,4 +1,5 @@
-// The laws of values, over a whole run: each built-in object's slots hold what its messages put there, each Fraction stands in lowest terms, and the numbers of objects, classes, symbols and selectors name something.
+// The laws of values, over a whole run: each built-in object holds what its messages put there, and
+// the numbers of objects, classes, symbols and selectors name something.
 #![tactic(auto)]
 
 mod numbers;
