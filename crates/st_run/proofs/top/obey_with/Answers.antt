@@ -1,6 +1,6 @@
--- A file that was read, one that was refused, and a fault.
+-- A file that was read, one that was refused, a fault, and want of memory.
 use Rattle.std.proofs.Common.{refl, ◌∙◌}
-use Rattle.st_run.proofs.CallLemmas.{read_calls, refused_calls, program_fault_calls, count_is}
+use Rattle.st_run.proofs.CallLemmas.{read_calls, refused_calls, program_fault_calls, want_calls, count_is}
 use Rattle.st_run.proofs.top.obey_with.Goals as goal
 
 pub returns-in-Read : goal.returns-in-Read
@@ -17,3 +17,6 @@ pub returns-in-ReadFault : goal.returns-in-ReadFault
 returns-in-ReadFault g c =
     program_fault_calls _ _ _ _ refl c.args.command c.requires.program c.tell.ensures.told (λ fault. c.tell.ensures.part (λ is. cc) fault)
     (c.read_file-read.ensures.failed c.in-ReadFault.is) (c.read_file-read.ensures.source_unsettled c.in-ReadFault.is)
+
+pub returns-in-OutOfMemory : goal.returns-in-OutOfMemory
+returns-in-OutOfMemory g c = want_calls _ _ _ _ _ c.report_want_of_memory.ensures.status (λ o. c.report_want_of_memory.ensures.finishes o _ refl)
