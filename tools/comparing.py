@@ -5,6 +5,7 @@ import concurrent.futures
 import functools
 import importlib.machinery
 import importlib.util
+import multiprocessing
 import os
 import random
 import re
@@ -91,18 +92,35 @@ def limits(seed, report):
             yield ["--" + name, str(rng.randint(1, most))]
 
 
+def seconds_to(moment):
+    """How long it is up to a moment, or None where it never comes."""
+    return None if moment == float("inf") else max(moment - time.monotonic(), 0)
+
+
 def results(pool, differs, cases):
-    """What each case comes to, in their order. Where there is a bound of time, no case but the first is begun past it."""
+    """What each case comes to, in their order. Where there is a bound of time, no case but the first is begun or waited for past it."""
     ends = time.monotonic() + float(os.environ.get(SECONDS, "inf"))
-    waiting = collections.deque()
+    waiting, compared = collections.deque(), 0
     for case in cases:
         waiting.append(pool.submit(differs, case))
         if len(waiting) >= AHEAD * os.cpu_count():
+            concurrent.futures.wait([waiting[0]], seconds_to(ends))
+        while waiting and waiting[0].done():
+            compared += 1
             yield waiting.popleft().result()
         if time.monotonic() > ends:
             break
-    while waiting:
-        yield waiting.popleft().result()
+    concurrent.futures.wait(waiting, seconds_to(ends))
+    if waiting and not compared:
+        concurrent.futures.wait([waiting[0]])
+    yield from [one.result() for one in waiting if one.done()]
+
+
+def left(pool):
+    """Leaves the cases that haven't ended: those that wait aren't begun, and processes that run others are ended."""
+    pool.shutdown(wait=False, cancel_futures=True)
+    for process in multiprocessing.active_children():
+        process.terminate()
 
 
 def compare(name, cases, differs, workers=concurrent.futures.ThreadPoolExecutor):
@@ -115,6 +133,7 @@ def compare(name, cases, differs, workers=concurrent.futures.ThreadPoolExecutor)
                 failed += 1
                 if failed <= 20:
                     print(found)
+        left(pool)
     return ended(name, compared - failed, failed)
 
 
