@@ -25,6 +25,9 @@ const LIMITS: Limits = Limits {
     cells: 10_000,
 };
 
+/// In calls of how many turns each run is made again.
+const PIECES: [u64; 3] = [1, 7, 1_000];
+
 /// How many bytes a program may write.
 const ROOM: usize = 10_000;
 
@@ -61,23 +64,35 @@ fn line_of(rt: &HostRuntime, events: &[Event], progress: Progress) -> Result<Str
     Ok(line)
 }
 
-// The events of a run, and how it ended, in one line.
-fn watch(rt: &HostRuntime, definition: Definition) -> Result<String> {
+// The events of a run in calls of so many turns, and how it ended, in one line.
+fn watch(rt: &HostRuntime, definition: Definition, turns: u64) -> Result<String> {
     let alloc = rt.alloc();
     let mut machine = opened(rt, definition, LIMITS).map_err(|_| AllocError)?;
     let mut out = MemorySink::new(alloc, ROOM, Vec::new(alloc)).map_err(|_| AllocError)?;
     let mut watcher = Watcher::new(alloc);
-    let progress = watcher.watch(&mut machine, &mut out);
+    let progress = watcher.watch(&mut machine, turns, &mut out);
     line_of(rt, watcher.events(), progress)
+}
+
+// What a run in calls of so many turns tells, where it is a run.
+fn told(rt: &HostRuntime, text: &[u8], turns: u64) -> Result<String> {
+    match definition_of(rt, text)? {
+        Some(definition) => watch(rt, definition, turns),
+        None => Ok(String::from_str(rt.alloc(), "no program")?),
+    }
 }
 
 fn main(rt: HostRuntime) -> Result<()> {
     let alloc = rt.alloc();
     for line in BufReader::new(alloc, rt.reader())?.lines(alloc) {
         let text = line?;
-        match definition_of(&rt, text.as_bytes())? {
-            Some(definition) => println!(rt; "{}", watch(&rt, definition)?)?,
-            None => println!(rt; "no program")?,
+        let whole = told(&rt, text.as_bytes(), u64::MAX)?;
+        println!(rt; "{whole}")?;
+        for turns in PIECES {
+            let pieces = told(&rt, text.as_bytes(), turns)?;
+            if pieces != whole {
+                println!(rt; "in calls of {turns} turns: {pieces}")?;
+            }
         }
     }
     Ok(())

@@ -8,6 +8,9 @@ use st_machine::{Machine, Progress};
 use st_sprint::go_watched;
 use std::alloc::Global;
 
+/// How many calls a run is given.
+const MOST_CALLS: u32 = 1_000_000;
+
 /// Keeps the events that it is told. It fails where memory is wanted.
 #[derive(Drop)]
 pub struct Watcher {
@@ -31,11 +34,33 @@ impl Watcher {
         &self.events
     }
 
-    /// Watches a machine to the end of its run.
-    pub fn watch<H: Heap, K: Sink>(&mut self, machine: &mut Machine<H>, out: &mut K) -> Progress
-        requires { self.old.broken ≡ None }
-    {
-        go_watched(machine, u64::MAX, out, self)
+    /// Watches a machine to the end of its run, in calls of so many turns each.
+    pub fn watch<H: Heap, K: Sink>(
+        &mut self,
+        machine: &mut Machine<H>,
+        turns: u64,
+        out: &mut K,
+    ) -> Progress {
+        for _ in 0..MOST_CALLS {
+            let progress = self.watch_on(machine, turns, out);
+            if progress != Progress::Running {
+                return progress;
+            }
+        }
+        Progress::Running
+    }
+
+    // So many turns, unless a call before them broke off.
+    fn watch_on<H: Heap, K: Sink>(
+        &mut self,
+        machine: &mut Machine<H>,
+        turns: u64,
+        out: &mut K,
+    ) -> Progress {
+        match self.broken {
+            Some(_) => Progress::WriteFault,
+            None => go_watched(machine, turns, out, self),
+        }
     }
 }
 
