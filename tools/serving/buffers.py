@@ -4,6 +4,8 @@ import re
 from typing import Any
 
 LINE_END = re.compile("\r\n|\n|\r")
+# the bytes of which each stands behind another of its letter
+BEHIND = bytes(range(0x80, 0xC0))
 
 
 def starts_of(text: str) -> list[int]:
@@ -72,10 +74,12 @@ class Buffer:
         return self.range(0, len(self.text))
 
     def place_of_byte(self, offset: int) -> int:
-        """The place in the text at which this byte of the file stands."""
+        """The place in the text of the letter to which this byte of the file belongs."""
         if self.text.isascii():
             return min(offset, len(self.text))
-        return len(self.bytes[:offset].decode("utf-8", "ignore"))
+        while self.bytes[offset : offset + 1] in BEHIND and offset < len(self.bytes):
+            offset -= 1
+        return len(self.bytes[:offset].translate(None, BEHIND))
 
     def byte_of_place(self, place: int) -> int:
         """The byte of the file at which this place of the text stands."""

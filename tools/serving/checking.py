@@ -1,6 +1,9 @@
 """Runs of the program for the server: checks of buffers, exports and runs, each of which a newer one can end."""
+import contextlib
 import dataclasses
+import os
 import re
+import signal
 import subprocess
 import tempfile
 from typing import BinaryIO
@@ -26,15 +29,31 @@ class Answer:
     report: str
 
 
+def end(run: subprocess.Popen[bytes]) -> None:
+    """Ends a run with all that it started."""
+    if run.poll() is None:
+        with contextlib.suppress(ProcessLookupError):
+            os.killpg(run.pid, signal.SIGKILL)
+
+
 class Program:
     """The built program, as words of a command."""
 
     def __init__(self, words: list[str]):
         self.words = words
+        self.running: set[subprocess.Popen[bytes]] = set()
 
     def start(self, words: list[str], source: BinaryIO) -> subprocess.Popen[bytes]:
-        """Starts the program with these words; it reads from a file."""
-        return subprocess.Popen([*self.words, *words], stdin=source, stdout=subprocess.PIPE, stderr=subprocess.PIPE)
+        """Starts the program with these words, as a group of its own; it reads from a file."""
+        command = [*self.words, *words]
+        return subprocess.Popen(
+            command, stdin=source, stdout=subprocess.PIPE, stderr=subprocess.PIPE, start_new_session=True
+        )
+
+    def stop(self) -> None:
+        """Ends all that runs."""
+        for run in list(self.running):
+            end(run)
 
     def answer(self, words: list[str], data: bytes, seconds: float | None = None) -> Answer | None:
         """What the program answers to this input, or None where it took longer."""
@@ -43,11 +62,14 @@ class Program:
             source.write(data)
             source.seek(0)
             with self.start(words, source) as run:
+                self.running.add(run)
                 try:
                     output, report = run.communicate(timeout=seconds)
                 except subprocess.TimeoutExpired:
-                    run.kill()
+                    end(run)
                     return None
+                finally:
+                    self.running.discard(run)
         return Answer(run.returncode, output, report.decode("utf-8", "replace"))
 
     def refusal(self, data: bytes) -> Refusal | None:

@@ -1,7 +1,10 @@
 """The commands 'run' and 'run tests': they run a buffer under limits, and show what came of it, while the editor goes on."""
+import dataclasses
 import os
+import shlex
 import tempfile
 import threading
+import urllib.parse
 from collections.abc import Callable
 
 from serving.buffers import Buffer
@@ -27,14 +30,21 @@ def shown(title: str, answer: Answer | None) -> str:
     return "\n".join(["%s: %s" % (title, end), *parts])
 
 
-def run_tests(data: bytes) -> Answer | None:
-    """What the test runner answers for this file."""
-    runner = Program([os.path.join(TOP, "tools", "test")])
+def name_of(uri: str) -> str:
+    """The name under which a buffer's tests are shown: that of its file, without folders."""
+    name = os.path.basename(urllib.parse.unquote(urllib.parse.urlsplit(uri).path))
+    return name if name.endswith(".sif") else "tests.sif"
+
+
+def run_tests(runner: Program, buffer: Buffer) -> Answer | None:
+    """What the test runner answers for this buffer."""
     with tempfile.TemporaryDirectory() as folder:
-        name = os.path.join(folder, "tests.sif")
+        name = os.path.join(folder, name_of(buffer.uri))
         with open(name, "wb") as file:
-            file.write(data)
-        return runner.answer([name], b"", SECONDS)
+            file.write(buffer.bytes)
+        answer = runner.answer(["--quiet", *LIMITS, name], b"", SECONDS)
+    place = os.path.join(folder, "").encode()
+    return answer and dataclasses.replace(answer, output=answer.output.replace(place, b""))
 
 
 class Commands:
@@ -42,6 +52,7 @@ class Commands:
 
     def __init__(self, program: Program, show: Callable[[str], None]):
         self.program = program
+        self.tests = Program([os.path.join(TOP, "tools", "test"), "--stx", shlex.join(program.words)])
         self.show = show
         self.turn = threading.Lock()
 
@@ -51,6 +62,11 @@ class Commands:
             return False
         threading.Thread(target=self.run, args=(command, buffer), daemon=True).start()
         return True
+
+    def stop(self) -> None:
+        """Ends what runs."""
+        self.program.stop()
+        self.tests.stop()
 
     def run(self, command: str, buffer: Buffer) -> None:
         """Runs a command to its end."""
@@ -63,7 +79,7 @@ class Commands:
         """What a command comes to, in words."""
         try:
             if command == RUN_TESTS:
-                return shown("tests", run_tests(buffer.bytes))
+                return shown("tests", run_tests(self.tests, buffer))
             return shown("run", self.program.answer(["run", *LIMITS], buffer.bytes, SECONDS))
         except OSError as fault:
             return "%s: %s" % (command, fault)

@@ -3,6 +3,7 @@ import dataclasses
 import functools
 import os
 import re
+import urllib.parse
 
 TOP = os.path.dirname(os.path.dirname(os.path.dirname(os.path.abspath(__file__))))
 REASON = re.compile(r"^\| `(\w+)` \| (.*) \|$")
@@ -45,8 +46,8 @@ def reasons() -> dict[str, str]:
 
 def link(reason: str) -> str:
     """The page's entry on a reason."""
-    anchor = "the-order-of-reasons" if reason in GRAMMAR else "the-static-rules"
-    return "file://%s#%s" % (os.path.join(TOP, "docs", "interchange.md"), anchor)
+    anchor = "an-example-of-each-reason" if reason in GRAMMAR else "the-static-rules"
+    return "file://%s#%s" % (urllib.parse.quote(os.path.join(TOP, "docs", "interchange.md")), anchor)
 
 
 @dataclasses.dataclass(frozen=True)

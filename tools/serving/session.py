@@ -51,7 +51,7 @@ def built_program() -> str:
 
 
 def span_of(data: bytes, refusal: Refusal) -> tuple[int, int]:
-    """Where a refusal stands in a file: from its byte to the end of the word there."""
+    """Where a refusal stands in a file: from its byte to the end of the word there; of an element that isn't there, its place."""
     last = None
     for chunk in chunks(data):
         last = chunk
@@ -60,8 +60,8 @@ def span_of(data: bytes, refusal: Refusal) -> tuple[int, int]:
             if refusal.byte == 0:
                 start = chunk.text.place(len(chunk.text.bytes) - len(chunk.text.bytes.lstrip()))
             return start, max(word_end(data, start), start)
-    end = last.end if last else len(data)
-    return end, end
+    start = last.start if last else 0
+    return start, start
 
 
 def word_end(data: bytes, start: int) -> int:
@@ -116,6 +116,7 @@ class Session:
             return self.server.run()
         finally:
             self.diagnosing.stop()
+            self.commands.stop()
 
     # the connection
 
