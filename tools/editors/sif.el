@@ -41,6 +41,7 @@
 ;;;###autoload
 (add-to-list 'auto-mode-alist '("\\.sif\\'" . sif-mode))
 
+(defvar eglot-server-programs)
 (with-eval-after-load 'eglot
   (add-to-list 'eglot-server-programs
                `(sif-mode . (,(expand-file-name "tools/language-server" sif-folder)))))

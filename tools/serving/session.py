@@ -51,7 +51,10 @@ def built_program() -> str:
 
 
 def span_of(data: bytes, refusal: Refusal) -> tuple[int, int]:
-    """Where a refusal stands in a file: from its byte to the end of the word there; of an element that isn't there, its place."""
+    """Where a refusal stands in a file: from its byte to the end of the word there.
+
+    An element that isn't there stands behind the last bang.
+    """
     last = None
     for chunk in chunks(data):
         last = chunk
