@@ -8,6 +8,8 @@ import subprocess
 import tempfile
 from typing import BinaryIO
 
+# the most that a run may write, in blocks of 512 bytes: 64 MiB
+LONGEST_BLOCKS = 131_072
 REFUSED = re.compile(r"stx: refused element (\d+) byte (\d+) (\w+)")
 
 
@@ -43,11 +45,11 @@ class Program:
         self.words = words
         self.running: set[subprocess.Popen[bytes]] = set()
 
-    def start(self, words: list[str], source: BinaryIO) -> subprocess.Popen[bytes]:
-        """Starts the program with these words, as a group of its own; it reads from a file."""
-        command = [*self.words, *words]
+    def start(self, words: list[str], source: BinaryIO, output: BinaryIO) -> subprocess.Popen[bytes]:
+        """Starts the program with these words, as a group of its own, which reads and writes files."""
+        command = ["sh", "-c", f'ulimit -f {LONGEST_BLOCKS}; exec "$@"', "sh", *self.words, *words]
         return subprocess.Popen(
-            command, stdin=source, stdout=subprocess.PIPE, stderr=subprocess.PIPE, start_new_session=True
+            command, stdin=source, stdout=output, stderr=subprocess.PIPE, start_new_session=True
         )
 
     def stop(self) -> None:
@@ -57,20 +59,21 @@ class Program:
 
     def answer(self, words: list[str], data: bytes, seconds: float | None = None) -> Answer | None:
         """What the program answers to this input, or None where it took longer."""
-        # a file, since a pipe would be filled piece by piece, each of which waits for what else runs here
-        with tempfile.TemporaryFile() as source:
+        # files, since a pipe would be filled piece by piece, each of which waits for what else runs here
+        with tempfile.TemporaryFile() as source, tempfile.TemporaryFile() as output:
             source.write(data)
             source.seek(0)
-            with self.start(words, source) as run:
+            with self.start(words, source, output) as run:
                 self.running.add(run)
                 try:
-                    output, report = run.communicate(timeout=seconds)
+                    _, report = run.communicate(timeout=seconds)
                 except subprocess.TimeoutExpired:
                     end(run)
                     return None
                 finally:
                     self.running.discard(run)
-        return Answer(run.returncode, output, report.decode("utf-8", "replace"))
+            output.seek(0)
+            return Answer(run.returncode, output.read(), report.decode("utf-8", "replace"))
 
     def refusal(self, data: bytes) -> Refusal | None:
         """The first fault of a file, if it has one."""

@@ -2,6 +2,7 @@
 import dataclasses
 import os
 import shlex
+import signal
 import tempfile
 import threading
 import urllib.parse
@@ -26,6 +27,8 @@ def shown(title: str, answer: Answer | None) -> str:
     if len(output) > LONGEST:
         output = output[:LONGEST] + "\n… (%d bytes in all)" % len(answer.output)
     end = "ended well" if answer.status == 0 else "ended with status %d" % answer.status
+    if answer.status == -signal.SIGXFSZ:
+        end = "stopped, since it wrote more than is kept"
     parts = [part for part in (output.rstrip("\n"), answer.report.rstrip("\n")) if part]
     return "\n".join(["%s: %s" % (title, end), *parts])
 
