@@ -44,6 +44,7 @@ class Program:
     def __init__(self, words: list[str]):
         self.words = words
         self.running: set[subprocess.Popen[bytes]] = set()
+        self.is_stopped = False
 
     def start(self, words: list[str], source: BinaryIO, output: BinaryIO) -> subprocess.Popen[bytes]:
         """Starts the program with these words, as a group of its own, which reads and writes files."""
@@ -53,7 +54,8 @@ class Program:
         )
 
     def stop(self) -> None:
-        """Ends all that runs."""
+        """Ends all that runs, and what is just being started."""
+        self.is_stopped = True
         for run in list(self.running):
             end(run)
 
@@ -65,6 +67,8 @@ class Program:
             source.seek(0)
             with self.start(words, source, output) as run:
                 self.running.add(run)
+                if self.is_stopped:
+                    end(run)
                 try:
                     _, report = run.communicate(timeout=seconds)
                 except subprocess.TimeoutExpired:
