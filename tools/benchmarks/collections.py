@@ -1,5 +1,5 @@
 everything = []
-for i in range(1, 100001):
+for i in range(1, 400001):
     everything.append(i * 7)
 some = [each for each in everything if each % 2 == 0]
 some = [each // 2 for each in some]

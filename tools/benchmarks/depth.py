@@ -4,6 +4,6 @@ class Chain:
 
 
 total = 0
-for _ in range(200):
+for _ in range(4000):
     total = total + Chain().down(400)
 print(total)

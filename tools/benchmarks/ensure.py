@@ -1,5 +1,5 @@
 done = 0
-for i in range(1, 20001):
+for i in range(1, 400001):
     try:
         done = done + i
     finally:

@@ -8,6 +8,6 @@ def tried(i):
 
 
 caught = 0
-for i in range(1, 10001):
+for i in range(1, 200001):
     caught = caught + tried(i)
 print(caught)

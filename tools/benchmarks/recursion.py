@@ -3,4 +3,4 @@ class Fibonacci:
         return n if n < 2 else self.of(n - 1) + self.of(n - 2)
 
 
-print(Fibonacci().of(27))
+print(Fibonacci().of(30))

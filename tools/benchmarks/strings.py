@@ -1,6 +1,6 @@
 text = "the quick brown fox jumps over the lazy dog"
 vowels = 0
-for _ in range(400):
+for _ in range(8000):
     for each in text:
         if each in "aeiou":
             vowels = vowels + 1
